@@ -1,0 +1,4 @@
+pub mod Bytes
+pub mod Check
+pub mod Numbers
+pub mod Questions

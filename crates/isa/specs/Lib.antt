@@ -1,0 +1,5 @@
+pub mod Command
+pub mod Fields
+pub mod Operands
+pub mod Ranges
+pub mod Table

@@ -1,0 +1,5 @@
+pub mod Lines
+pub mod Listing
+pub mod Numbers
+pub mod Overlay
+pub mod Printout
