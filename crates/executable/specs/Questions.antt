@@ -38,31 +38,31 @@ abbrev pub allZero : List ℕ → Bool
 allZero [] = true
 allZero (b ∷ bs) = eqb b 0 && allZero bs
 
--- 20: are there at least 512 bytes?
+-- 20: does a whole header stand there, 512 bytes?
 abbrev pub longEnough : List ℕ → Bool
 longEnough bs = leb 512 (length bs)
 
--- 21: is the mark there?
+-- 21: do the first 16 bytes spell the mark?
 abbrev pub marked : List ℕ → Bool
 marked bs = sameBytes (take 16 bs) mark
 
--- 22: is the processor 239?
+-- 22: is it made for processor 239?
 abbrev pub rightProcessor : List ℕ → Bool
 rightProcessor bs = eqb (processor bs) 239
 
--- 23: are bytes 36 to 511 zero?
+-- 23: is the filler, bytes 36 to 511, all zero?
 abbrev pub zeroFiller : List ℕ → Bool
 zeroFiller bs = allZero (drop 36 (take 512 bs))
 
--- 24: are both sizes multiples of 4, together at most 262,144?
+-- 24: do both sizes count whole words, 65,536 at most in all?
 abbrev pub rightSizes : List ℕ → Bool
 rightSizes bs = eqb (codeSize bs % 4) 0 && (eqb (constantsSize bs % 4) 0 && leb (codeSize bs + constantsSize bs) 262144)
 
--- 25: is the length 512 plus both sizes?
+-- 25: is every byte accounted for by header and sizes?
 abbrev pub rightLength : List ℕ → Bool
 rightLength bs = eqb (length bs) (512 + codeSize bs + constantsSize bs)
 
--- 26: are the first instruction and the stack pointer below 1,048,576?
+-- 26: are both addresses below 1,048,576?
 abbrev pub rightAddresses : List ℕ → Bool
 rightAddresses bs = ltb (firstInstruction bs) 1048576 && ltb (stackPointer bs) 1048576
 

@@ -8,7 +8,7 @@ use crate::word::number_at;
 
 const MARK: &[u8] = b"ThisIsKarmaExec\0";
 
-/// 21: is the mark there?
+/// 21: do the first 16 bytes spell the mark?
 pub(crate) fn is_marked(bytes: &[u8]) -> bool
     requires { ⌜ 512 ≤ length (now bytes) ⌝ }
     ensures { λ r. ⌜ r ≡ marked (now (bytes .entry)) ⌝ }
@@ -16,7 +16,7 @@ pub(crate) fn is_marked(bytes: &[u8]) -> bool
     &bytes[0..16] == MARK
 }
 
-/// 22: is the processor 239?
+/// 22: is it made for processor 239?
 pub(crate) fn has_right_processor(bytes: &[u8]) -> bool
     requires { ⌜ 512 ≤ length (now bytes) ⌝ }
     ensures { λ r. ⌜ r ≡ rightProcessor (now (bytes .entry)) ⌝ }
@@ -24,7 +24,7 @@ pub(crate) fn has_right_processor(bytes: &[u8]) -> bool
     number_at(bytes, 32) == 239
 }
 
-/// 23: are bytes 36 to 511 zero?
+/// 23: is the filler, bytes 36 to 511, all zero?
 pub(crate) fn has_zero_filler(bytes: &[u8]) -> bool
     requires { ⌜ 512 ≤ length (now bytes) ⌝ }
     ensures { λ r. ⌜ r ≡ zeroFiller (now (bytes .entry)) ⌝ }
@@ -37,7 +37,7 @@ pub(crate) fn has_zero_filler(bytes: &[u8]) -> bool
     true
 }
 
-/// 24: are both sizes multiples of 4, together at most 262,144?
+/// 24: do both sizes count whole words, 65,536 at most in all?
 pub(crate) fn has_right_sizes(bytes: &[u8]) -> bool
     requires { ⌜ 512 ≤ length (now bytes) ⌝ }
     ensures { λ r. ⌜ r ≡ rightSizes (now (bytes .entry)) ⌝ }
@@ -47,7 +47,7 @@ pub(crate) fn has_right_sizes(bytes: &[u8]) -> bool
     code % 4 == 0 && constants % 4 == 0 && code + constants <= 262_144
 }
 
-/// 25: is the length 512 plus both sizes?
+/// 25: is every byte accounted for by header and sizes?
 pub(crate) fn has_right_length(bytes: &[u8]) -> bool
     requires { ⌜ 512 ≤ length (now bytes) ⌝ }
     ensures { λ r. ⌜ r ≡ rightLength (now (bytes .entry)) ⌝ }
@@ -57,7 +57,7 @@ pub(crate) fn has_right_length(bytes: &[u8]) -> bool
     bytes.len() == 512 + code + constants
 }
 
-/// 26: are the first instruction and the stack pointer below 1,048,576?
+/// 26: are both addresses below 1,048,576?
 pub(crate) fn has_right_addresses(bytes: &[u8]) -> bool
     requires { ⌜ 512 ≤ length (now bytes) ⌝ }
     ensures { λ r. ⌜ r ≡ rightAddresses (now (bytes .entry)) ⌝ }

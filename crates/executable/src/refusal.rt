@@ -6,19 +6,19 @@ ghost use Rattle.executable.specs.Numbers.{numberOf};
 /// The question about an executable that gets a no first.
 #[derive(Clone, Copy)]
 pub enum Refusal {
-    /// 20: are there at least 512 bytes?
+    /// 20: does a whole header stand there, 512 bytes?
     TooShort,
-    /// 21: is the mark there?
+    /// 21: do the first 16 bytes spell the mark?
     NoMark,
-    /// 22: is the processor 239?
+    /// 22: is it made for processor 239?
     OtherProcessor,
-    /// 23: are bytes 36 to 511 zero?
+    /// 23: is the filler, bytes 36 to 511, all zero?
     FillerNotZero,
-    /// 24: are both sizes multiples of 4, together at most 262,144?
+    /// 24: do both sizes count whole words, 65,536 at most in all?
     BadSizes,
-    /// 25: is the length 512 plus both sizes?
+    /// 25: is every byte accounted for by header and sizes?
     OtherLength,
-    /// 26: are the first instruction and the stack pointer below 1,048,576?
+    /// 26: are both addresses below 1,048,576?
     AddressTooLarge,
 }
 

@@ -16,11 +16,11 @@ use Rattle.executable.specs.declared.refusal.Refusal.the-variants.{TooShort, No
 use Rattle.executable.proofs.Accepted.{accepted}
 use Rattle.listing.specs.Listing.{listing, roomFor, listedParts, listed, lengthOf, outputAfter, asked}
 use Rattle.listing.specs.Numbers.{numberOf}
-use Rattle.listing.specs.Overlay.{overlay, Wrote}
+use Rattle.output.specs.Overlay.{overlay, Wrote}
 use Rattle.listing.specs.declared.refusal.Refusal.{Refusal}
 use Rattle.listing.specs.declared.refusal.Refusal.the-variants.{Executable, OutputTooShort}
 use Rattle.listing.proofs.Room.{Bytes, listing-length, executable-length}
-use Rattle.listing.proofs.Writes.{overlay-whole}
+use Rattle.output.proofs.Writes.{overlay-whole}
 
 module _ (bs : List ℕ) (p : Parts) (is : Ok p ≡ checked bs) (each : (q : refused.Refusal) → executable.asked q bs ≡ true) (typed : Bytes bs) where
   pub the-parts : p ≡ partsIn bs

@@ -3,4 +3,4 @@ pub mod Prints
 pub mod Room
 pub mod Texts
 pub mod Turns
-pub mod Writes
+pub mod Signs

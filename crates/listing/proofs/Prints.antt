@@ -19,12 +19,12 @@ use Rattle.executable.specs.declared.refusal.Refusal.the-variants.{TooShort, No
 use Rattle.executable.proofs.Accepted.{accepted}
 use Rattle.listing.specs.Listing.{listing, roomFor, listedParts, listed, lengthOf, outputAfter, asked, OnlyFirstNo}
 use Rattle.listing.specs.Numbers.{numberOf}
-use Rattle.listing.specs.Overlay.{overlay, Wrote}
+use Rattle.output.specs.Overlay.{overlay, Wrote}
 use Rattle.listing.specs.Printout.{taken, textOf, isRefused}
 use Rattle.listing.specs.declared.refusal.Refusal.{Refusal}
 use Rattle.listing.specs.declared.refusal.Refusal.the-variants.{Executable, OutputTooShort}
 use Rattle.listing.proofs.Room.{Bytes, listing-length}
-use Rattle.listing.proofs.Writes.{overlay-whole}
+use Rattle.output.proofs.Writes.{overlay-whole}
 
 -- a text written at the start of a page that has room for it
 pub on-page : (o o′ text : List ℕ) (n : ℕ) → Wrote o 0 text n o′ → length text ≤ length o → length o < 2 ^ 64 → (take n o′ ≡ text) × (n ≤ length o)

@@ -64,7 +64,7 @@ pub number-short : (name : List ℕ) (n : ℕ) → length name ≤ 7 → n < 2 ^
 number-short name n h k = short name (decimal n ∷ []) (omega (arith, length-decimal-le 10 n (omega arith) (omega arith) (omega arith)))
 
 -- what k bits mean is held by k bits
-mag-signed : (k h n : ℕ) → 2 ^ k ≡ 2 * h → 2 ^ (k - 1) ≡ h → n < 2 ^ k → mag (fields.signed k n) < h
+pub mag-signed : (k h n : ℕ) → 2 ^ k ≡ 2 * h → 2 ^ (k - 1) ≡ h → n < 2 ^ k → mag (fields.signed k n) < h
 mag-signed k h n e f l = cond-both (ltb n (2 ^ (k - 1))) (pos n) (negsuc (2 ^ k - 1 - n)) (λ z. mag z < h)
     (λ t. omega (arith, ltb-true n (2 ^ (k - 1)) t)) (λ t. omega (arith, ltb-false n (2 ^ (k - 1)) t))
 
@@ -118,20 +118,20 @@ listing-parts p =
 abbrev pub Bytes : List ℕ → Type 0
 Bytes bs = (i : ℕ) → getD bs i 0 < 256
 
-words-small : (bs : List ℕ) → Bytes bs → Words (wordsOf bs)
+pub words-small : (bs : List ℕ) → Bytes bs → Words (wordsOf bs)
 words-small (a ∷ b ∷ c ∷ d ∷ rest) h = (omega (arith, h 0, h 1, h 2, h 3), words-small rest (λ i. h (suc (suc (suc (suc i))))))
 words-small (a ∷ b ∷ c ∷ []) h = tt
 words-small (a ∷ b ∷ []) h = tt
 words-small (a ∷ []) h = tt
 words-small [] h = tt
 
-bytes-take : (n : ℕ) (bs : List ℕ) → Bytes bs → Bytes (take n bs)
+pub bytes-take : (n : ℕ) (bs : List ℕ) → Bytes bs → Bytes (take n bs)
 bytes-take n bs h i = ⊎-elim
     (λ (l : i < n). omega (arith, getD-take n bs i 0 l, h i))
     (λ (g : n ≤ i). omega (arith, getD-past (take n bs) i 0 (omega (arith, length-take n bs))))
     (cases-lt i n)
 
-bytes-drop : (n : ℕ) (bs : List ℕ) → Bytes bs → Bytes (drop n bs)
+pub bytes-drop : (n : ℕ) (bs : List ℕ) → Bytes bs → Bytes (drop n bs)
 bytes-drop n bs h i = omega (arith, getD-drop n bs i 0, h (n + i))
 
 -- the longest listing of an accepted executable: 31 bytes for each line

@@ -1,5 +1,4 @@
 pub mod Lines
 pub mod Listing
 pub mod Numbers
-pub mod Overlay
 pub mod Printout

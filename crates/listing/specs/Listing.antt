@@ -28,7 +28,7 @@ listingLines p =
 abbrev pub listing : Parts → List ℕ
 listing p = joined lineText (listingLines p)
 
--- 27: is the output long enough?
+-- 27: does the listing fit into the output?
 abbrev pub roomFor : Parts → ℕ → Bool
 roomFor p room = leb (length (listing p)) room
 

@@ -4,15 +4,15 @@ ghost use Rattle.std.specs.Joined.{joined};
 ghost use Rattle.isa.specs.Command.{plain};
 ghost use Rattle.isa.specs.Operands.{numbersIn};
 ghost use Rattle.listing.specs.Lines.{afterBlank, lineText, numberLine, operandWords, plainLine, wordLine};
-ghost use Rattle.listing.specs.Overlay.{Wrote};
-use crate::put::put_byte;
+ghost use Rattle.output.specs.Overlay.{Wrote};
 use crate::put::put_decimal;
 use crate::put::put_register;
 use crate::put::put_signed;
-use crate::put::put_text;
 use executable::segment::Segment;
 use isa::command::Command;
 use isa::operands::Operands;
+use output::put::put_byte;
+use output::put::put_text;
 
 /// Writes a line of a name and a number.
 pub(crate) fn put_number_line(out: &mut [u8], at: usize, name: &[u8], n: u32) -> usize

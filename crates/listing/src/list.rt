@@ -8,7 +8,7 @@ ghost use Rattle.executable.specs.Bytes.{wordsOf};
 ghost use Rattle.executable.specs.Check.{contents};
 ghost use Rattle.listing.specs.Lines.{lineText, wordLine};
 ghost use Rattle.listing.specs.Listing.{listing, listed, lengthOf, outputAfter, OnlyFirstNo};
-ghost use Rattle.listing.specs.Overlay.{Wrote};
+ghost use Rattle.output.specs.Overlay.{Wrote};
 use crate::line::put_number_line;
 use crate::line::put_word;
 use crate::refusal::Refusal;

@@ -1,30 +1,11 @@
-//! Writing into a caller's output. Each call writes what fits and answers the place after the whole text,
-//! so that the same calls measure a text (over an empty output) and write it.
+//! Writing numbers and registers.
 
 ghost use mathlib.Core.List.{[], _∷_};
 ghost use Rattle.std.specs.Written.{decimal, signed};
 ghost use Rattle.listing.specs.Lines.{registerName};
-ghost use Rattle.listing.specs.Overlay.{Wrote};
+ghost use Rattle.output.specs.Overlay.{Wrote};
 use isa::register::Register;
-
-pub(crate) fn put_byte(out: &mut [u8], at: usize, byte: u8) -> usize
-    ensures { λ r. ⌜ Wrote (now (out .entry)) at (byte ∷ []) r (now (out .exit)) ⌝ }
-{
-    if at < out.len() {
-        out[at] = byte;
-    }
-    at.saturating_add(1)
-}
-
-pub(crate) fn put_text(out: &mut [u8], at: usize, text: &[u8]) -> usize
-    ensures { λ r. ⌜ Wrote (now (out .entry)) at (now (text .entry)) r (now (out .exit)) ⌝ }
-{
-    let mut end = at;
-    for byte in text {
-        end = put_byte(out, end, *byte);
-    }
-    end
-}
+use output::put::put_byte;
 
 /// Writes a number in decimal.
 pub(crate) fn put_decimal(out: &mut [u8], at: usize, n: u32) -> usize

@@ -8,7 +8,7 @@ ghost use Rattle.listing.specs.Numbers.{numberOf};
 pub enum Refusal {
     /// 20 to 26: the bytes are no executable.
     Executable(executable::refusal::Refusal),
-    /// 27: is the output long enough?
+    /// 27: does the listing fit into the output?
     OutputTooShort,
 }
 

@@ -6,8 +6,8 @@ use lib.ListN.{length}
 use Rattle.std.specs.Joined.{joined}
 use Rattle.isa.specs.Operands.{numbersIn}
 use Rattle.listing.specs.Lines.{afterBlank, operandWords}
-use Rattle.listing.specs.Overlay.{Wrote}
-use Rattle.listing.proofs.Writes.{wrote-then}
+use Rattle.output.specs.Overlay.{Wrote}
+use Rattle.output.proofs.Writes.{wrote-then}
 use Rattle.listing.proofs.line.put_command.Needs as need
 
 pub returns : need.returns

@@ -3,9 +3,9 @@ use native.Mathlib.Omega.{arith}
 use Prim.Native.Nat.{_<_, _^_}
 use lib.ListN.{length}
 use Rattle.std.specs.Written.{decimal}
-use Rattle.listing.specs.Overlay.{Wrote}
+use Rattle.output.specs.Overlay.{Wrote}
 use Rattle.listing.proofs.Texts.{number-text}
-use Rattle.listing.proofs.Writes.{wrote-then}
+use Rattle.output.proofs.Writes.{wrote-then}
 use Rattle.listing.proofs.line.put_number_line.Needs as need
 
 pub returns : need.returns

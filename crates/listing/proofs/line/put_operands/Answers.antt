@@ -11,9 +11,9 @@ use Rattle.std.specs.Written.{decimal, signed}
 use Rattle.std.proofs.shelf.Signed.{toZ-ofZ}
 use Rattle.isa.specs.Operands.{numbersIn}
 use Rattle.listing.specs.Lines.{afterBlank, operandWords, registerName}
-use Rattle.listing.specs.Overlay.{Wrote}
+use Rattle.output.specs.Overlay.{Wrote}
 use Rattle.listing.proofs.Texts.{one-word, two-words, three-words}
-use Rattle.listing.proofs.Writes.{wrote-then}
+use Rattle.output.proofs.Writes.{wrote-then}
 use Rattle.listing.proofs.line.put_operands.Needs as need
 
 pub returns-in-Rr : need.returns-in-Rr

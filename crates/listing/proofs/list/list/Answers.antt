@@ -8,7 +8,7 @@ use Rattle.executable.specs.Check.{contents}
 use Rattle.listing.specs.Listing.{listing, lengthOf, outputAfter}
 use Rattle.listing.proofs.Answered.{measured, no-room, with-room, earlier, all-asked}
 use Rattle.listing.proofs.Room.{Bytes}
-use Rattle.listing.proofs.Writes.{overlay-whole}
+use Rattle.output.proofs.Writes.{overlay-whole}
 use Rattle.listing.proofs.list.list.Needs as need
 
 pub returns-then-length-out : need.returns-then-length-out

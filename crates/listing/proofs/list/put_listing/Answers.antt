@@ -8,11 +8,11 @@ use Rattle.std.specs.Joined.{joined}
 use Rattle.executable.specs.Bytes.{wordsOf}
 use Rattle.executable.specs.Check.{contents}
 use Rattle.listing.specs.Lines.{lineText, numberLine, wordLine}
-use Rattle.listing.specs.Overlay.{Wrote}
+use Rattle.output.specs.Overlay.{Wrote}
 use Rattle.executable.specs.declared.segment.Segment.the-variants.{Code, Constants}
 use Rattle.listing.proofs.Room.{listing-parts}
 use Rattle.listing.proofs.Texts.{four-parts}
-use Rattle.listing.proofs.Writes.{wrote-then}
+use Rattle.output.proofs.Writes.{wrote-then}
 use Rattle.listing.proofs.list.put_listing.Needs as need
 
 pub returns : need.returns

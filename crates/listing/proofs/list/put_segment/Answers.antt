@@ -7,9 +7,9 @@ use Rattle.std.specs.Joined.{joined}
 use Rattle.std.proofs.shelf.Lists.{take-all}
 use Rattle.executable.specs.Bytes.{wordsOf}
 use Rattle.listing.specs.Lines.{lineText, wordLine}
-use Rattle.listing.specs.Overlay.{Wrote}
+use Rattle.output.specs.Overlay.{Wrote}
 use Rattle.listing.proofs.Turns.{nth-some, nth-none, words-length, segment-more}
-use Rattle.listing.proofs.Writes.{wrote-none, wrote-then}
+use Rattle.output.proofs.Writes.{wrote-none, wrote-then}
 use Rattle.listing.proofs.list.put_segment.Needs as need
 
 pub loop-word-holds : need.loop-word-holds

@@ -4,7 +4,7 @@ use lib.ListN.{length, take}
 use Rattle.std.specs.Joined.{joined}
 use Rattle.executable.specs.Bytes.{wordsOf}
 use Rattle.listing.specs.Lines.{lineText, wordLine}
-use Rattle.listing.specs.Overlay.{Wrote}
+use Rattle.output.specs.Overlay.{Wrote}
 use Rattle.listing.proofs.list.put_segment.Given as given
 
 abbrev pub Inv-loop-word : given.InvT-loop-word

@@ -4,8 +4,8 @@ use Prim.Native.Nat.{ℕ, _+_, _/_, _%_}
 use native.Mathlib.Omega.{arith}
 use Rattle.std.specs.Written.{decimal}
 use Rattle.std.proofs.shelf.Decimals.{decimal-digit, decimal-step}
-use Rattle.listing.specs.Overlay.{Wrote}
-use Rattle.listing.proofs.Writes.{wrote-then}
+use Rattle.output.specs.Overlay.{Wrote}
+use Rattle.output.proofs.Writes.{wrote-then}
 use Rattle.listing.proofs.put.+put_decimal.Needs as need
 
 pub returns-then-n-lt10 : need.returns-then-n-lt10

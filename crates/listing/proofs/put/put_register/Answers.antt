@@ -3,8 +3,8 @@ use mathlib.Core.List.{List, [], _∷_}
 use Prim.Native.Nat.{ℕ}
 use native.Mathlib.Omega.{arith}
 use Rattle.std.specs.Written.{decimal}
-use Rattle.listing.specs.Overlay.{Wrote}
-use Rattle.listing.proofs.Writes.{wrote-then}
+use Rattle.output.specs.Overlay.{Wrote}
+use Rattle.output.proofs.Writes.{wrote-then}
 use Rattle.listing.proofs.put.put_register.Needs as need
 
 pub returns : need.returns

@@ -3,8 +3,9 @@ use mathlib.Core.List.{List, [], _∷_}
 use Prim.Native.Nat.{ℕ}
 use native.Mathlib.Omega.{arith}
 use Rattle.std.specs.Written.{decimal, signed}
-use Rattle.listing.specs.Overlay.{Wrote}
-use Rattle.listing.proofs.Writes.{wrote-then, signed-up, signed-down}
+use Rattle.output.specs.Overlay.{Wrote}
+use Rattle.output.proofs.Writes.{wrote-then}
+use Rattle.listing.proofs.Signs.{signed-up, signed-down}
 use Rattle.listing.proofs.put.put_signed.Needs as need
 
 pub returns-then-z-ge0 : need.returns-then-z-ge0

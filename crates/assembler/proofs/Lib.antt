@@ -1,0 +1,10 @@
+pub mod Bytes
+pub mod Counts
+pub mod Emission
+pub mod Entries
+pub mod Firsthand
+pub mod Firsts
+pub mod Forms
+pub mod Judges
+pub mod Strings
+pub mod Turns

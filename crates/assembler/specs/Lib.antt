@@ -1,0 +1,13 @@
+pub mod Assembled
+pub mod Characters
+pub mod Emit
+pub mod First
+pub mod Labels
+pub mod Lines
+pub mod Mnemonics
+pub mod Operands
+pub mod Pieces
+pub mod Questions
+pub mod Reading
+pub mod Said
+pub mod Statements

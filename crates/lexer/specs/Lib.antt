@@ -1,0 +1,4 @@
+pub mod Cursor
+pub mod Escape
+pub mod Shown
+pub mod Text

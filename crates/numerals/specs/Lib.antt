@@ -1,0 +1,2 @@
+pub mod Integer
+pub mod Natural

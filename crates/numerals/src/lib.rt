@@ -1,0 +1,4 @@
+//! Numerals: what number a word writes.
+
+pub mod integer;
+pub mod natural;

@@ -1,0 +1,3 @@
+//! Writing into an output that the caller lends.
+
+pub mod put;

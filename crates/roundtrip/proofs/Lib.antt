@@ -1,0 +1,10 @@
+pub mod Answered
+pub mod Back
+pub mod Coded
+pub mod Commands
+pub mod Emitted
+pub mod Rebuilt
+pub mod Runs
+pub mod Says
+pub mod Shown
+pub mod Texts
