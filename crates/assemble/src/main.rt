@@ -75,8 +75,23 @@ fn run(rt: &LibcRuntime, text: &[u8], name: &str) -> Result<(), AnyError> {
     }
 }
 
+/// Reads the source file and assembles it.
+fn work(rt: &LibcRuntime) -> Result<(), AnyError> {
+    let names = given_names(rt)?;
+    let source = names.source.as_str();
+    let text = match fs::read(rt, source) {
+        Ok(text) => text,
+        Err(error) => return Err(format!(rt.alloc(), "{source}: {error}")?.into()),
+    };
+    run(rt, text.as_slice(), names.executable.as_str())
+}
+
 fn main(rt: LibcRuntime) -> Result<(), AnyError> {
-    let names = given_names(&rt)?;
-    let text = fs::read(&rt, names.source.as_str())?;
-    run(&rt, text.as_slice(), names.executable.as_str())
+    match work(&rt) {
+        Ok(()) => Ok(()),
+        Err(error) => {
+            eprintln!(rt, "assemble: {error}")?;
+            Err(error)
+        }
+    }
 }
