@@ -11,16 +11,10 @@ import os
 import re
 import struct
 
+from commands import J, RI, RM, RR, TABLE
+
 TOP = os.path.join(os.path.dirname(os.path.abspath(__file__)), "..")
-RR, RI, RM, J = "RR", "RI", "RM", "J"
-TABLE = (
-    "halt RI,syscall RI,add RR,addi RI,sub RR,subi RI,mul RR,muli RI,div RR,divi RI,not RI,shl RR,shli RI,shr RR,"
-    "shri RI,and RR,andi RI,or RR,ori RI,xor RR,xori RI,itod RR,dtoi RR,addd RR,subd RR,muld RR,divd RR,cmp RR,"
-    "cmpi RI,cmpd RR,jmp J,jne J,jeq J,jle J,jl J,jge J,jg J,push RI,pop RI,lc RI,la RM,mov RR,load RM,load2 RM,"
-    "store RM,store2 RM,loadr RR,loadr2 RR,storer RR,storer2 RR,prc J,call RR,calli J,ret J"
-).split(",")
-COMMANDS = {row.split()[0]: (code, row.split()[1]) for code, row in enumerate(TABLE)}
-assert len(COMMANDS) == 54
+COMMANDS = {name: (code, form) for code, (name, form) in enumerate(TABLE)}
 CONSTANTS, DIRECTIVES = ("word", "uint32", "string"), ("stack", "end")
 # what each operand of a form is
 PLACES = {RR: "register register modifier", RI: "register immediate", RM: "register address", J: "address"}
