@@ -20,6 +20,8 @@ DECLARED = re.compile(
     re.M,
 )
 BOUND = re.compile(r"(?:let|in)\s+([^\s(){}.;,@\"«»:=]+)\s*[:=]|λ\s+([^.\n]*)\.|[({]([^\s(){}.;,@\"«»:=]+(?:\s+[^\s(){}.;,@\"«»:=]+)*)\s+:")
+# what the kit's libraries lend
+LENT = re.compile(r"use (?:Rattle\.std|borrow|denote|mir|lib|Prim|mathlib|native)\.[\w.+]*\{([^}]*)\}")
 CAMEL = re.compile(r"^[a-z][a-z0-9]*[A-Z][A-Za-z0-9]*'*$")
 # the path of an import: its parts are modules and functions of the Rust code
 PATH = re.compile(r"(?<=use )[\w.+]+(?=\.| as )")
@@ -77,6 +79,10 @@ def is_answers(path):
 
 def collect(root):
     own, local = collections.defaultdict(set), collections.defaultdict(set)
+    lent = set()
+    for p in files(root):
+        for m in LENT.finditer(read(p)):
+            lent.update(n.strip().split(" as ")[0] for n in m.group(1).split(","))
     for p in files(root):
         if not p.endswith(".antt"):
             continue
@@ -88,6 +94,10 @@ def collect(root):
         for m in BOUND.finditer(t):
             for n in " ".join(g for g in m.groups() if g).split():
                 local[p].add(n)
+    for n in lent & set(own):
+        del own[n]
+    for names in local.values():
+        names -= lent
     return own, local
 
 

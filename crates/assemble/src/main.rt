@@ -1,5 +1,7 @@
 //! Assembles a source file into an executable file and prints a report: `assemble SOURCE EXECUTABLE`.
 
+#![tactic(auto)]
+
 mod program;
 #[cfg(test)]
 mod tests;
@@ -7,6 +9,7 @@ mod tests;
 use anyhow::anyhow;
 use program::run;
 use std::env;
+use std::process::ExitCode;
 
 /// The names of the two files.
 #[derive(Drop)]
@@ -35,12 +38,18 @@ fn work(rt: &HostRuntime) -> anyhow::Result<()> {
     )
 }
 
-fn main(rt: HostRuntime) -> anyhow::Result<()> {
+/// Writes the error to standard error.
+fn tell(rt: &HostRuntime, error: &anyhow::Error) -> anyhow::Result<()> {
+    eprintln!(rt; "assemble: {error}")?;
+    Ok(())
+}
+
+fn main(rt: HostRuntime) -> ExitCode {
     match work(&rt) {
-        Ok(()) => Ok(()),
+        Ok(()) => ExitCode::SUCCESS,
         Err(error) => {
-            eprintln!(rt; "assemble: {error}")?;
-            Err(error)
+            let _ = tell(&rt, &error);
+            ExitCode::FAILURE
         }
     }
 }

@@ -1,20 +1,19 @@
 -- The first pass counts the words that the second puts.
-use Rattle.std.proofs.Common.{◌≡◌, ℕ, ◌+◌, ◌*◌, ◌^◌, ◌<◌, ◌≤◌, Bool, true, false, cond, List, [], ◌∷◌, ◌++◌, length, drop, Some, None, Ok, Err, Option, Result, sym, refl, ap, ◌∙◌, subst, arith, length-append}
+use Rattle.std.proofs.Common.{◌≡◌, ℕ, ◌+◌, ◌*◌, ◌^◌, ◌<◌, ◌≤◌, true, List, [], ◌∷◌, ◌++◌, length, Some, None, Ok, Option, sym, refl, ap, ◌∙◌, subst, arith, length-append}
 use Rattle.std.specs.List.{flat_map}
-use Rattle.std.proofs.lemmas.Bool.{cond_true, cond-false, le-leb, lt-leb}
+use Rattle.std.proofs.lemmas.Bool.{cond-true, le-leb}
 use Rattle.lexer.specs.Text.{lines_of, words_of, before, blanks}
 use Rattle.output.specs.Overlay.{Wrote}
 use Rattle.output.proofs.Writes.{overlay_whole}
 use Rattle.assembler.specs.declared.label.Label.{Label}
 use Rattle.assembler.specs.declared.progress.Progress.{Progress}
 use Rattle.assembler.specs.declared.question.Question.{Question}
-use Rattle.assembler.specs.declared.question.Question.TheVariants as question
 use Rattle.assembler.specs.Statements as said
 use Rattle.assembler.specs.Statements.{Meant}
-use Rattle.assembler.specs.Lines.{Parts, parts_of, statement_in}
+use Rattle.assembler.specs.Lines.{parts_of, statement_in}
 use Rattle.assembler.specs.Questions.{refusal_in, code_words, data_words, string_words, after, labels_after}
-use Rattle.assembler.specs.Emit.{put_by, string_constants, words_from, line_says, lost_from, start_from, four_bytes, header_of, executable_of}
-use Rattle.assembler.specs.Assembled.{Outcome, passed, refused, on_line, run_from, fresh, Assembled, good, bad, right_text, room_for, executable_in, lastly, after_lines, assembled, answer_of, labels_of, output_of}
+use Rattle.assembler.specs.Emit.{put_by, string_constants, words_from, lost_from, start_from, four_bytes, header_of, executable_of}
+use Rattle.assembler.specs.Assembled.{Outcome, passed, refused, on_line, run_from, fresh, good, right_text, executable_in, lastly, after_lines, assembled, answer_of, labels_of, output_of}
 
 abbrev CountsO : Outcome → Progress → ℕ → Type 0
 CountsO (passed ls q) pr k = q.code + q.pool ≡ pr.code + pr.pool + k
@@ -67,7 +66,7 @@ executable_length a b c d ws = let q = quads ws in omega (arith, length-append (
 module _ (t : List ℕ) (cap : ℕ) (ls : List Label) (pr : Progress) (told : passed ls pr ≡ run_from t cap [] fresh 1 0 (lines_of t)) (right : right_text t ≡ true) (ended : pr.ended ≡ true) where
   ends : (room : ℕ) → None ≡ lost_from t ls 1 (lines_of t) → 512 + 4 * (pr.code + pr.pool) ≤ room → assembled t cap room ≡ good (executable_in t ls pr) ls
   ends room found h =
-      cond_true _ _ _ right ∙ sym (ap (after_lines t room) told) ∙ cond_true _ _ _ ended ∙ sym (ap (lastly t room ls pr) found) ∙ cond_true _ _ _ (le-leb (512 + 4 * (pr.code + pr.pool)) room h)
+      cond-true _ _ _ right ∙ sym (ap (after_lines t room) told) ∙ cond-true _ _ _ ended ∙ sym (ap (lastly t room ls pr) found) ∙ cond-true _ _ _ (le-leb (512 + 4 * (pr.code + pr.pool)) room h)
 
   pub done : (out result : List ℕ) (r : ℕ) (ls₁ ls₂ : List Label) → ls₁ ≡ ls → ls₂ ≡ ls → None ≡ lost_from t ls₁ 1 (lines_of t) → 512 + 4 * (pr.code + pr.pool) ≤ length out → length out < 2 ^ 64 → Wrote out 0 (executable_in t ls₂ pr) r result
       → (Ok r ≡ answer_of (assembled t cap (length out))) × (ls ≡ labels_of (assembled t cap (length out))) × (result ≡ output_of (assembled t cap (length out)) out)

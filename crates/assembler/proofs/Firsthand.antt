@@ -1,7 +1,7 @@
 -- What is refused is refused by the first question with a no.
 use Rattle.std.proofs.Common.{◌≡◌, ℕ, zero, suc, ◌+◌, ◌-◌, ◌<◌, ◌≤◌, Bool, true, false, cond, List, [], ◌∷◌, length, get_or, take, Some, None, Err, Option, sym, refl, ap, ◌∙◌, subst, ⊎_elim, arith}
 use Rattle.std.specs.List.{slice_get}
-use Rattle.std.proofs.lemmas.Bool.{cond_true, cond-false, cases_eq}
+use Rattle.std.proofs.lemmas.Bool.{cond-true, cond-false, cases_eq}
 use Rattle.lexer.specs.Text.{lines_of, words_of, before, blanks}
 use Rattle.assembler.specs.Assembled.{Outcome, passed, refused, on_line, run_from, fresh, Assembled, good, bad, right_text, room_for, executable_in, lastly, after_lines, assembled, answer_of}
 use Rattle.assembler.specs.Emit.{lost_from}
@@ -68,7 +68,7 @@ module _ (f : Question → Bool) where
   says_first [] m q on first = absurd (omega (arith, first.2, first.3))
   says_first (x ∷ qs) m q on first = ⊎_elim
       (λ (same : number_of q ≡ m). let is : x ≡ q = by_number x q (on.0 ∙ sym same) in cond-false (f x) (first_no f qs) (Some x) (ap f is ∙ first.0) ∙ ap Some is)
-      (λ (apart : number_of q ≡ m → ⊥). cond_true (f x) (first_no f qs) (Some x) (first.1 x (omega (arith, on.0, first.2, apart))) ∙ says_first qs (m + 1) q on.1 (first.0, first.1, omega (arith, first.2, apart), omega (arith, first.3)))
+      (λ (apart : number_of q ≡ m → ⊥). cond-true (f x) (first_no f qs) (Some x) (first.1 x (omega (arith, on.0, first.2, apart))) ∙ says_first qs (m + 1) q on.1 (first.0, first.1, omega (arith, first.2, apart), omega (arith, first.3)))
       (cases_eq (number_of q) m)
 
   only_text : f question.Text ≡ true → YesBelow 2
@@ -222,10 +222,10 @@ module _ (t : List ℕ) (cap room : ℕ) where
 
   -- what gets a no is refused
   passing : (ls : List Label) (pr : Progress) → AllPass t cap ls pr → assembled t cap room ≡ cond pr.ended (lastly t room ls pr (lost_from t ls 1 (lines_of t))) (bad question.End 0 ls)
-  passing ls pr all = cond_true _ _ _ all.0 ∙ ap (after_lines t room) all.1
+  passing ls pr all = cond-true _ _ _ all.0 ∙ ap (after_lines t room) all.1
 
   line_refused : (q : Question) (n : ℕ) → 2 ≤ number_of q → number_of q < 11 → (right_text t ≡ true) × NoOnLine t cap q n → (ls : List Label) × (assembled t cap room ≡ bad q n ls)
-  line_refused q n low high x = let r = on_line_no t cap q n low high x.1 in (r.0, cond_true _ _ _ x.0 ∙ ap (after_lines t room) r.1)
+  line_refused q n low high x = let r = on_line_no t cap q n low high x.1 in (r.0, cond-true _ _ _ x.0 ∙ ap (after_lines t room) r.1)
 
   refuses : (q : Question) (n : ℕ) → FirstNo t cap room q n → (ls : List Label) × (assembled t cap room ≡ bad q n ls)
   refuses question.Text n x = ([], cond-false _ _ _ x.0 ∙ ap (λ i. bad question.Text i []) (sym x.1))
@@ -239,8 +239,8 @@ module _ (t : List ℕ) (cap room : ℕ) where
   refuses question.Range n x = line_refused question.Range n (omega arith) (omega arith) x
   refuses question.Words n x = line_refused question.Words n (omega arith) (omega arith) x
   refuses question.End n x = (x.0, passing x.0 x.1 x.2 ∙ cond-false _ _ _ x.3 ∙ ap (λ i. bad question.End i x.0) (sym x.4))
-  refuses question.Defined n x = (x.0, passing x.0 x.1 x.2 ∙ cond_true _ _ _ x.3 ∙ ap (lastly t room x.0 x.1) x.4)
-  refuses question.Output n x = (x.0, passing x.0 x.1 x.2 ∙ cond_true _ _ _ x.3 ∙ ap (lastly t room x.0 x.1) x.4 ∙ cond-false _ _ _ x.5 ∙ ap (λ i. bad question.Output i x.0) (sym x.6))
+  refuses question.Defined n x = (x.0, passing x.0 x.1 x.2 ∙ cond-true _ _ _ x.3 ∙ ap (lastly t room x.0 x.1) x.4)
+  refuses question.Output n x = (x.0, passing x.0 x.1 x.2 ∙ cond-true _ _ _ x.3 ∙ ap (lastly t room x.0 x.1) x.4 ∙ cond-false _ _ _ x.5 ∙ ap (λ i. bad question.Output i x.0) (sym x.6))
 
   pub exactly : ExactlyFirstNo t cap room (answer_of (assembled t cap room))
   exactly q n = (λ e. let x = is_bad (assembled t cap room) q n e in by_text q n x.0 (right_text t) refl x.1, λ x. ap answer_of (refuses q n x).1)

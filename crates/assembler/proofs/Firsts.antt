@@ -1,16 +1,16 @@
 -- The first words of a line, and its parts.
-use Rattle.std.proofs.Common.{◌≡◌, ℕ, ◌+◌, ◌-◌, ◌≤◌, min, Bool, true, false, cond, eqb, List, [], ◌∷◌, map, length, get_or, take, Some, None, Option, unwrap_or, sym, refl, ap, ◌∙◌, arith, Bor}
+use Rattle.std.proofs.Common.{◌≡◌, ℕ, ◌-◌, ◌≤◌, Bool, true, eqb, List, [], ◌∷◌, map, length, get_or, take, Some, None, unwrap_or, sym, refl, ap, ◌∙◌, arith, Bor}
 use Rattle.std.specs.List.{between}
 use Rattle.std.proofs.lemmas.Bool.{cond_both}
 use Rattle.lexer.specs.Cursor.{part, Begins}
-use Rattle.lexer.specs.Shown.{Shown, shown, tell, first_told, first_shown, sorted, kind_of, label, name, register, number, string}
+use Rattle.lexer.specs.Shown.{Shown, shown, tell, first_told, first_shown, sorted, kind_of, label}
 use Rattle.lexer.specs.Text.{tail_of}
 use Rattle.lexer.specs.declared.lines.Line.{Line}
 use Rattle.lexer.specs.declared.word.Told.{Told}
 use Rattle.lexer.specs.declared.word.Word.{Word}
 use Rattle.lexer.specs.declared.word.Word.TheVariants as word
 use Rattle.lexer.specs.declared.words.Words.{Words}
-use Rattle.assembler.specs.Lines.{Parts, label_of, past_label, parts_by, parts_of}
+use Rattle.assembler.specs.Lines.{label_of, past_label, parts_by, parts_of}
 
 -- a cursor at the begin of a line that lies in the text
 module _ (bytes : List ℕ) (l : Line) (w : Words) (b : Begins bytes l w) (ordered : l.start ≤ l.end) (within : l.end ≤ length bytes) where

@@ -1,8 +1,8 @@
 -- What is read of operands, form by form.
-use Rattle.std.proofs.Common.{◌≡◌, ℕ, suc, ◌-◌, ◌^◌, ◌<◌, ◌≤◌, min, Bool, true, false, cond, ◌&&◌, ◌||◌, ltb, List, [], ◌∷◌, length, drop, ℤ, pos, negsuc, is_some, Some, None, Ok, Err, Option, unwrap_or, sym, refl, ap, ◌∙◌, subst, arith}
+use Rattle.std.proofs.Common.{◌≡◌, ℕ, ◌-◌, ◌^◌, ◌<◌, ◌≤◌, min, true, false, ltb, List, [], ◌∷◌, length, drop, ℤ, pos, negsuc, is_some, Some, None, Ok, Err, Option, sym, refl, ap, ◌∙◌, subst, arith}
 use lib.Signed.{mag}
 use Rattle.std.specs.Option.{option_map}
-use Rattle.std.proofs.lemmas.Bool.{cond_true, cond-false, cond_both, ltb-true, ltb-false, lt-ltb, le-ltb, cases_Bool, both_ways}
+use Rattle.std.proofs.lemmas.Bool.{cond_both, ltb-true, ltb-false, lt-ltb, le-ltb}
 use Rattle.std.proofs.lemmas.Bool.Decides.{nat_tests}
 use Rattle.isa.specs.Command.{instruction, encoded}
 use Rattle.isa.specs.Operands.{rr, ri, rm, j}
@@ -11,11 +11,10 @@ use Rattle.isa.specs.declared.opcode.Opcode.{Opcode}
 use Rattle.lexer.specs.Shown.{Shown, label, name, register, number, string}
 use Rattle.numerals.specs.Integer.{capped_integer}
 use Rattle.numerals.specs.Natural.{capped}
-use Rattle.assembler.specs.Operands.{register_in, integer_in, natural_in, label_in, operand, in_bits, is_below}
+use Rattle.assembler.specs.Operands.{register_in, integer_in, natural_in, label_in, operand}
 use Rattle.assembler.specs.Reading.{fitting, under}
 use Rattle.assembler.specs.Characters.{characters}
-use Rattle.assembler.specs.Labels.{usable}
-use Rattle.assembler.specs.Statements.{Meant, code, labelled, constant, text, stack, end, end_at, read_form, read_counted}
+use Rattle.assembler.specs.Statements.{code, labelled, constant, text, stack, end, read_form, read_counted}
 use Rattle.assembler.specs.declared.mnemonic.Mnemonic.TheVariants.{Word, Uint32, Text, Stack, End}
 use Rattle.assembler.specs.declared.question.Question.TheVariants as question
 

@@ -1,19 +1,22 @@
 -- The questions of a line, one after another.
-use Rattle.std.proofs.Common.{◌≡◌, ℕ, ◌+◌, ◌≤◌, Bool, true, false, cond, not, ◌&&◌, ◌||◌, List, [], ◌∷◌, length, is_some, Some, None, Ok, Err, Option, Result, sym, refl, ap, ◌∙◌, subst, arith}
+use Rattle.std.proofs.Common.{◌≡◌, ℕ, ◌+◌, Bool, true, false, cond, not, ◌&&◌, ◌||◌, List, length, is_some, Some, None, Ok, Err, Option, Result, sym, refl, ap, ◌∙◌, arith}
 use Rattle.std.specs.Option.{option_map}
-use Rattle.std.proofs.lemmas.Bool.{cond_true, cond-false, cond_both}
+use Rattle.std.proofs.lemmas.Bool.{cond-true, cond-false, cond_both}
 use Rattle.executable.specs.Check.{ask}
 use Rattle.lexer.specs.Shown.{Shown}
 use Rattle.assembler.specs.Lines.{Parts, named, said_by, statement_in}
 use Rattle.assembler.specs.Operands.{right_count, right_form, right_range}
-use Rattle.assembler.specs.Questions.{followed_by, orderly, string_words, few_with, after_by, after, or_refused, of_operands, body_refusal, body_of, right_label, label_room, label_refusal, refusal_in, entries_of, judge_of}
+use Rattle.assembler.specs.Questions.{followed_by, orderly, string_words, few_with, after_by, after, or_refused, body_refusal, body_of, right_label, label_room, label_refusal, refusal_in, entries_of, judge_of}
 use Rattle.assembler.specs.declared.label.Label.{Label}
-use Rattle.assembler.specs.declared.progress.Judged.{Judged}
-use Rattle.assembler.specs.Statements.{Meant, statement_by, said, read_by, justly, read_named}
+use Rattle.assembler.specs.Statements.{Meant, statement_by, read_by, justly, read_named}
 use Rattle.assembler.specs.declared.mnemonic.Mnemonic.{Mnemonic}
 use Rattle.assembler.specs.declared.progress.Progress.{Progress}
 use Rattle.assembler.specs.declared.question.Question.{Question}
 use Rattle.assembler.specs.declared.question.Question.TheVariants as question
+
+pub string_none : (cs : Option (List ℕ)) → None ≡ option_map length cs → 0 ≡ string_words cs
+string_none None e = refl
+string_none (Some x) e = absurd (let h : Some (length x) ≡ None = sym e in cc)
 
 pub string_count : (o : Option (List ℕ)) (n : ℕ) → Some n ≡ option_map length o → n + 1 ≡ string_words o
 string_count None n e = let z : ◌≡◌ {A = ℕ} 0 1 = cc in absurd (omega arith)
@@ -56,8 +59,8 @@ named_ok None ws st rest e = (refl, let s : st ≡ None = cc in sym s)
 named_ok (Some m) ws st rest e =
     let x = justly_ok (read_by m ws) st e in
     let y = all_yes (right_count m ws) (right_form m ws) (right_range m ws) (statement_by m ws) x.0 x.1 in (
-      cond_true _ _ _ y.0 ∙ cond_true _ _ _ y.1 ∙ cond_true _ _ _ y.2,
-      cond_true (right_count m ws && (right_form m ws && right_range m ws)) (Some (statement_by m ws)) None (ap (λ b. b && (right_form m ws && right_range m ws)) y.0 ∙ ap (λ b. b && right_range m ws) y.1 ∙ y.2) ∙ ap Some y.3 ∙ sym x.2,
+      cond-true _ _ _ y.0 ∙ cond-true _ _ _ y.1 ∙ cond-true _ _ _ y.2,
+      cond-true (right_count m ws && (right_form m ws && right_range m ws)) (Some (statement_by m ws)) None (ap (λ b. b && (right_form m ws && right_range m ws)) y.0 ∙ ap (λ b. b && right_range m ws) y.1 ∙ y.2) ∙ ap Some y.3 ∙ sym x.2,
     )
 
 pub named_err : (mn : Option Mnemonic) (ws : List Shown) (q : Question) (rest : Option Question) → Err q ≡ read_named mn ws → operands_then mn ws rest ≡ Some q
@@ -81,9 +84,9 @@ module _ (pr : Progress) (l : Parts) (lab nm : Bool) (mn : Option Mnemonic) (lab
   placed : body_refusal pr l ≡ operands_then (named l.next) l.operands (cond (few_with pr (statement_in l)) None (Some question.Words))
   placed =
       body_is pr l
-      ∙ cond_true _ _ _ (ap (λ b. followed_by pr b (named l.next)) (sym lab_is) ∙ ap (followed_by pr lab) (sym mn_is) ∙ q4)
-      ∙ cond_true _ _ _ (ap (λ b. not b || is_some (named l.next)) (sym nm_is) ∙ ap (λ x. not nm || is_some x) (sym mn_is) ∙ q5)
-      ∙ cond_true _ _ _ (ap (λ b. orderly pr (b || is_some l.next) (named l.next)) (sym lab_is) ∙ ap (λ b. orderly pr (lab || b) (named l.next)) (sym nm_is) ∙ ap (orderly pr (lab || nm)) (sym mn_is) ∙ q6)
+      ∙ cond-true _ _ _ (ap (λ b. followed_by pr b (named l.next)) (sym lab_is) ∙ ap (followed_by pr lab) (sym mn_is) ∙ q4)
+      ∙ cond-true _ _ _ (ap (λ b. not b || is_some (named l.next)) (sym nm_is) ∙ ap (λ x. not nm || is_some x) (sym mn_is) ∙ q5)
+      ∙ cond-true _ _ _ (ap (λ b. orderly pr (b || is_some l.next) (named l.next)) (sym lab_is) ∙ ap (λ b. orderly pr (lab || b) (named l.next)) (sym nm_is) ∙ ap (orderly pr (lab || nm)) (sym mn_is) ∙ q6)
 
   pub body_ok : (st : Option Meant) (r : Result Progress Question) → Ok st ≡ read_named mn l.operands → r ≡ cond (few_with pr st) (Ok (after_by pr lab nm mn st)) (Err question.Words) → r ≡ body_of pr l
   body_ok st r e is =
@@ -92,7 +95,7 @@ module _ (pr : Progress) (l : Parts) (lab nm : Bool) (mn : Option Mnemonic) (lab
       let on : after pr l ≡ after_by pr lab nm mn st =
       ap (λ b. after_by pr b (is_some l.next) (named l.next) (statement_in l)) (sym lab_is) ∙ ap (λ b. after_by pr lab b (named l.next) (statement_in l)) (sym nm_is) ∙ ap (λ x. after_by pr lab nm x (statement_in l)) (sym mn_is) ∙ ap (after_by pr lab nm mn) both.1 in
       is
-      ∙ cond_both (few_with pr st) None (Some question.Words) (λ o. cond (few_with pr st) (Ok (after_by pr lab nm mn st)) (Err question.Words) ≡ or_refused (after_by pr lab nm mn st) o) (λ t. cond_true _ _ _ t) (λ t. cond-false _ _ _ t)
+      ∙ cond_both (few_with pr st) None (Some question.Words) (λ o. cond (few_with pr st) (Ok (after_by pr lab nm mn st)) (Err question.Words) ≡ or_refused (after_by pr lab nm mn st) o) (λ t. cond-true _ _ _ t) (λ t. cond-false _ _ _ t)
       ∙ ap (λ o. or_refused (after_by pr lab nm mn st) o) (sym refusal) ∙ ap (λ x. or_refused x (body_refusal pr l)) (sym on)
 
   pub body_err : (q : Question) → Err q ≡ read_named mn l.operands → Err q ≡ body_of pr l

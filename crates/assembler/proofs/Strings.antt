@@ -1,8 +1,8 @@
 -- The pieces of a string.
-use Rattle.std.proofs.Common.{◌≡◌, ℕ, ◌+◌, ◌-◌, ◌<◌, ◌≤◌, Bool, true, false, cond, ◌&&◌, eqb, leb, List, [], ◌∷◌, length, get_or, take, drop, IfSome, Some, None, Option, sym, refl, ap, ◌∙◌, arith}
+use Rattle.std.proofs.Common.{◌≡◌, ℕ, ◌+◌, ◌-◌, ◌<◌, ◌≤◌, cond, eqb, List, [], ◌∷◌, length, get_or, take, drop, IfSome, Some, None, Option, sym, refl, ap, ◌∙◌, arith}
 use Rattle.std.specs.Option.{option_map}
 use Rattle.std.proofs.lemmas.List.{take_rest}
-use Rattle.std.proofs.lemmas.Bool.{cond_true, cond-false, cond_both, eq-eqb, ne_eqb}
+use Rattle.std.proofs.lemmas.Bool.{cond-true, cond-false, cond_both, eq-eqb, ne_eqb}
 use Rattle.lexer.specs.Escape.{escaped_as}
 use Rattle.assembler.specs.Characters.{in_front, plain_character, until_quote, characters}
 
@@ -26,7 +26,7 @@ module _ (rest : List ℕ) (long : 2 ≤ length rest) (inner : get_or rest 0 0 �
   past_quote = until_more rest long ∙ cond-false _ _ _ (ne_eqb (get_or rest 0 0) 34 inner)
 
   pub until_escape : get_or rest 0 0 ≡ 92 → (r : Option ℕ) → r ≡ escaped_as (get_or rest 1 0) → until_quote rest ≡ in_front r (until_quote (drop 2 rest))
-  until_escape e r is = past_quote ∙ cond_true _ _ _ (eq-eqb (get_or rest 0 0) 92 e) ∙ ap (λ x. in_front x (until_quote (drop 2 rest))) (sym is)
+  until_escape e r is = past_quote ∙ cond-true _ _ _ (eq-eqb (get_or rest 0 0) 92 e) ∙ ap (λ x. in_front x (until_quote (drop 2 rest))) (sym is)
 
   pub until_plain : (get_or rest 0 0 ≡ 92 → ⊥) → (r : Option ℕ) → r ≡ plain_character (get_or rest 0 0) → until_quote rest ≡ in_front r (until_quote (drop 1 rest))
   until_plain e r is = past_quote ∙ cond-false _ _ _ (ne_eqb (get_or rest 0 0) 92 e) ∙ ap (λ x. in_front x (until_quote (drop 1 rest))) (sym is)
@@ -42,7 +42,7 @@ count_start (Some cs) = let e : 0 + length cs ≡ length cs = omega arith in ap 
 
 pub past_opening : (w : List ℕ) → 0 < length w → get_or w 0 0 ≡ 34 → characters w ≡ until_quote (take (length w - 1) (drop 1 w))
 past_opening [] h e = absurd (omega arith)
-past_opening (b ∷ bs) h e = cond_true _ _ _ (eq-eqb b 34 e) ∙ sym (ap until_quote (take_rest (b ∷ bs) 1))
+past_opening (b ∷ bs) h e = cond-true _ _ _ (eq-eqb b 34 e) ∙ sym (ap until_quote (take_rest (b ∷ bs) 1))
 
 -- a string has fewer characters than bytes
 front_short : (o : Option ℕ) (m : Option (List ℕ)) (n k : ℕ) → IfSome m (λ cs. length cs < n) → n < k → IfSome (in_front o m) (λ cs. length cs < k)

@@ -2,7 +2,7 @@
 use Rattle.std.specs.Prelude.{ℕ, ◌+◌, ◌*◌, Bool, true, false, cond, ◌&&◌, ◌||◌, List, [], ◌∷◌, ◌++◌, length, drop, Some, None, Ok, Err, Option, Result, ◌==◌, nat_le}
 use Rattle.lexer.specs.Text.{lines_of, words_of, before, blanks}
 use Rattle.assembler.specs.Emit.{words_from, lost_from, start_from, executable_of}
-use Rattle.assembler.specs.Lines.{Parts, parts_of}
+use Rattle.assembler.specs.Lines.{parts_of}
 use Rattle.assembler.specs.Questions.{refusal_in, labels_after, after}
 use Rattle.assembler.specs.declared.label.Label.{Label}
 use Rattle.assembler.specs.declared.progress.Progress.{Progress}

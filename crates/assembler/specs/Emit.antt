@@ -1,5 +1,5 @@
 -- What the lines put into the executable.
-use Rattle.std.specs.Prelude.{ℕ, ◌+◌, ◌*◌, ◌/◌, ◌%◌, Bool, true, false, cond, not, leb, List, [], ◌∷◌, ◌++◌, length, replicate, is_some, Some, None, Option}
+use Rattle.std.specs.Prelude.{ℕ, ◌+◌, ◌*◌, ◌/◌, ◌%◌, Bool, false, cond, not, List, [], ◌∷◌, ◌++◌, replicate, is_some, Some, None, Option}
 use Rattle.std.specs.List.{flat_map}
 use Rattle.std.specs.Option.{unwrap_or}
 use Rattle.executable.specs.Questions.{mark}

@@ -1,5 +1,5 @@
 -- A line in its parts: its label, the word after it, and the operands.
-use Rattle.std.specs.Prelude.{ℕ, true, false, List, [], ◌∷◌, map, Some, None, Option}
+use Rattle.std.specs.Prelude.{ℕ, true, false, List, map, Some, None, Option}
 use Rattle.lexer.specs.Shown.{Shown, label, name, register, number, string, kind_of, first_shown}
 use Rattle.lexer.specs.Text.{tail_of}
 use Rattle.assembler.specs.Mnemonics.{mnemonic_of}

@@ -1,5 +1,5 @@
 -- The names of commands, constants and directives.
-use Rattle.std.specs.Prelude.{ℕ, Bool, true, false, cond, List, Some, None, codes, Option}
+use Rattle.std.specs.Prelude.{ℕ, Bool, true, false, cond, List, Some, codes, Option}
 use Rattle.std.specs.Option.{option_map}
 use Rattle.std.specs.Str.{bytes_eq}
 use Rattle.isa.specs.Table.{opcode_named}

@@ -1,5 +1,5 @@
 -- What the piece in front of a string says of the whole.
-use Rattle.std.specs.Prelude.{◌≡◌, ℕ, ◌≤◌, List, [], ◌∷◌, length, drop, Some, None}
+use Rattle.std.specs.Prelude.{◌≡◌, ℕ, ◌≤◌, List, [], length, drop, Some, None}
 use Rattle.assembler.specs.Characters.{in_front, until_quote}
 use Rattle.assembler.specs.declared.characters.Piece.{Piece}
 use Rattle.assembler.specs.declared.characters.Piece.TheVariants.{Closed, Character, Bad}

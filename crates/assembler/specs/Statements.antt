@@ -1,5 +1,5 @@
 -- What a line says: its statement, from its mnemonic and its operands.
-use Rattle.std.specs.Prelude.{ℕ, Bool, true, false, cond, ◌&&◌, List, [], ◌∷◌, Some, None, Ok, Err, Option, Result}
+use Rattle.std.specs.Prelude.{ℕ, cond, ◌&&◌, List, Some, None, Ok, Err, Option, Result}
 use Rattle.std.specs.Option.{option_map}
 use Rattle.executable.specs.Check.{ask}
 use Rattle.isa.specs.Command.{instruction, encoded}

@@ -1,5 +1,7 @@
 //! The assembler: a text becomes an executable, or is refused.
 
+#![tactic(auto)]
+
 pub mod assemble;
 pub mod characters;
 mod emit;

@@ -22,18 +22,19 @@ pub enum Mnemonic {
 
 impl Mnemonic {
     /// The mnemonic with a name, or none for another word.
+    #[tactic(auto, unfolding(crate::specs::Mnemonics::mnemonic_of))]
     pub(crate) fn from_name(name: &[u8]) -> Option<Mnemonic>
         ensures { result ≡ mnemonic_of name.now }
     {
-        if name == b"word" {
+        if name == b"word".as_slice() {
             Some(Mnemonic::Word)
-        } else if name == b"uint32" {
+        } else if name == b"uint32".as_slice() {
             Some(Mnemonic::Uint32)
-        } else if name == b"string" {
+        } else if name == b"string".as_slice() {
             Some(Mnemonic::Text)
-        } else if name == b"stack" {
+        } else if name == b"stack".as_slice() {
             Some(Mnemonic::Stack)
-        } else if name == b"end" {
+        } else if name == b"end".as_slice() {
             Some(Mnemonic::End)
         } else {
             command_named(name)

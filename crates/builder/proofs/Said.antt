@@ -1,6 +1,6 @@
 -- What a name and operands say, where questions 7, 8 and 9 get a yes.
 use Rattle.std.proofs.Common.{◌≡◌, ℕ, ◌+◌, true, ◌&&◌, List, [], ◌∷◌, ◌++◌, length, Some, None, Option, unwrap_or, sym, refl, ap, ◌∙◌, arith, length-append}
-use Rattle.std.proofs.lemmas.Bool.{cond_true, and_from}
+use Rattle.std.proofs.lemmas.Bool.{cond-true, and_from}
 use Rattle.isa.specs.Command.{instruction, encoded}
 use Rattle.isa.specs.Operands.{rm, j}
 use Rattle.isa.specs.Table.{form_of}
@@ -29,7 +29,7 @@ stated_by (Some m) ws = Some (statement_by m ws)
 
 pub said_is : (o : Option Mnemonic) (ws : List Shown) → Right o ws → said_by o ws ≡ stated_by o ws
 said_is None ws r = refl
-said_is (Some m) ws r = cond_true _ _ _ (and_from (right_count m ws) (right_form m ws && right_range m ws) r.0 (and_from (right_form m ws) (right_range m ws) r.1 r.2))
+said_is (Some m) ws r = cond-true _ _ _ (and_from (right_count m ws) (right_form m ws && right_range m ws) r.0 (and_from (right_form m ws) (right_range m ws) r.1 r.2))
 
 -- what is the same of a command with a label and without
 by_code_with : {X : Type 0} (f : Option Meant → X) (x : X) → ((w : ℕ) → f (Some (code w)) ≡ x) → ((w : ℕ) (l : List ℕ) → f (Some (labelled w l)) ≡ x) → (w : ℕ) (o : Option (List ℕ)) → f (Some (code_with w o)) ≡ x

@@ -1,5 +1,5 @@
 -- The numbers from one up to another.
-use Rattle.std.proofs.Common.{◌≡◌, ℕ, suc, ◌+◌, ◌-◌, ◌<◌, ◌∷◌, refl, ap, ◌∙◌, arith}
+use Rattle.std.proofs.Common.{◌≡◌, ℕ, suc, ◌+◌, ◌-◌, ◌<◌, ◌∷◌, ap, arith}
 use Rattle.host.specs.declared.item.Item.TheVariants.{Number}
 use Rattle.counting.specs.Counted.{numbers}
 

@@ -1,5 +1,7 @@
 //! A host whose readings are made by a rule: the numbers from one up to another. It keeps up to 16 results itself.
 
+#![tactic(auto)]
+
 ghost use Rattle.std.specs.Prelude.{◌≤◌};
 
 use host::item::Item;

@@ -1,7 +1,7 @@
 -- What follows where every question gets a yes.
-use Rattle.std.proofs.Common.{◌≡◌, ℕ, ◌+◌, ◌<◌, ◌≤◌, Bool, true, false, cond, List, length, Ok, Err, sym, refl, ap, ◌∙◌, arith}
-use Rattle.std.proofs.lemmas.Bool.{cond_true, cond-false, lt-leb, eqb-true}
-use Rattle.executable.specs.Check.{Parts, parts_in, checked, OnlyFirstNo}
+use Rattle.std.proofs.Common.{◌≡◌, ℕ, ◌+◌, ◌<◌, ◌≤◌, true, false, List, length, Ok, ◌∙◌, arith}
+use Rattle.std.proofs.lemmas.Bool.{cond-true, lt-leb, eqb-true}
+use Rattle.executable.specs.Check.{parts_in, checked}
 use Rattle.executable.specs.Numbers.{number_of}
 use Rattle.executable.specs.Questions.{code_size, constants_size, long_enough, marked, right_processor, zero_filler, right_sizes, right_length, right_addresses, asked}
 use Rattle.executable.specs.declared.refusal.Refusal.{Refusal}
@@ -12,7 +12,7 @@ code_inside bs e = omega (arith, eqb-true (length bs) (512 + code_size bs + cons
 
 module _ (bs : List ℕ) (a : long_enough bs ≡ true) (b : marked bs ≡ true) (c : right_processor bs ≡ true) (d : zero_filler bs ≡ true) (e : right_sizes bs ≡ true) (f : right_length bs ≡ true) (g : right_addresses bs ≡ true) where
   pub accepted : checked bs ≡ Ok (parts_in bs)
-  accepted = cond_true _ _ _ a ∙ cond_true _ _ _ b ∙ cond_true _ _ _ c ∙ cond_true _ _ _ d ∙ cond_true _ _ _ e ∙ cond_true _ _ _ f ∙ cond_true _ _ _ g
+  accepted = cond-true _ _ _ a ∙ cond-true _ _ _ b ∙ cond-true _ _ _ c ∙ cond-true _ _ _ d ∙ cond-true _ _ _ e ∙ cond-true _ _ _ f ∙ cond-true _ _ _ g
 
   pub each_yes : (q : Refusal) → asked q bs ≡ true
   each_yes TooShort = a

@@ -1,5 +1,7 @@
 //! The executable file: its header, its check and its parts.
 
+#![tactic(auto)]
+
 pub mod check;
 mod header;
 pub mod parts;

@@ -1,5 +1,7 @@
 //! Worked examples of the definitions, held as one proved fact.
 
+#![tactic(auto)]
+
 ghost use Rattle.std.specs.Prelude.{◌≡◌, [], ◌∷◌};
 ghost use Rattle.figures.specs.Figures.{Figures};
 

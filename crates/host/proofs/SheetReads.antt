@@ -1,5 +1,5 @@
 -- Reading the records of a sheet as items.
-use Rattle.std.proofs.Common.{◌≡◌, ℕ, ◌+◌, ◌-◌, ◌^◌, ◌<◌, Bool, true, false, cond, eqb, ltb, List, [], ◌∷◌, ◌++◌, length, take, drop, Some, None, Option, sym, refl, ap, ◌∙◌, suc_le_suc, zero-le, arith}
+use Rattle.std.proofs.Common.{◌≡◌, ℕ, ◌-◌, ◌^◌, Bool, true, false, cond, eqb, ltb, List, [], ◌∷◌, ◌++◌, length, take, Some, None, Option, sym, refl, ap, ◌∙◌, suc-le-suc, zero-le, arith}
 use Rattle.std.proofs.lemmas.List.{take_rest}
 use Rattle.std.proofs.lemmas.Bool.{eqb-true, lt-ltb, true≢false}
 use Rattle.host.specs.declared.first.First.{First}
@@ -8,13 +8,13 @@ use Rattle.host.specs.declared.item.Item.TheVariants.{Number, Real, Character}
 use Rattle.host.specs.declared.record.Record.{Record}
 use Rattle.host.specs.Firsts.{StandsFirst}
 use Rattle.host.specs.Ranges.{InRange}
-use Rattle.host.specs.Sheets.{within, item_of, items, spoiled, spoils, first_by, first_on, record_of, sheet_of, Appended}
+use Rattle.host.specs.Sheets.{item_of, items, spoiled, spoils, first_by, first_on, record_of, sheet_of, Appended}
 
 stands_at : (r : Record) (rs : List Record) (o : Option Item) → item_of r ≡ o → StandsFirst items spoiled (r ∷ rs) (first_by o)
 stands_at r rs None e = (rw e, rw e)
 stands_at r rs (Some x) e =
     let rest : take (length (r ∷ rs) - 1) rs ≡ rs = take_rest (r ∷ rs) 1 in
-    (suc_le_suc zero-le, rw e (ap (λ l. x ∷ items l) (sym rest)), rw e (ap spoiled (sym rest)))
+    (suc-le-suc zero-le, rw e (ap (λ l. x ∷ items l) (sym rest)), rw e (ap spoiled (sym rest)))
 
 -- what stands first, and what is read past it
 pub stands : (rs : List Record) (f : First) → f ≡ first_on rs → StandsFirst items spoiled rs f

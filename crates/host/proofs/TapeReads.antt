@@ -1,10 +1,9 @@
 -- Reading the bytes of a tape as items.
-use Rattle.std.proofs.Common.{◌≡◌, ℕ, zero, suc, ◌-◌, ◌≤◌, Bool, true, false, cond, ◌&&◌, ltb, leb, List, [], ◌∷◌, ◌++◌, length, take, drop, sym, refl, ap, ◌∙◌, subst, suc_le_suc, zero-le, le_of_suc-le-suc, not-suc-le-zero, arith, length-append}
+use Rattle.std.proofs.Common.{◌≡◌, ℕ, zero, suc, ◌-◌, ◌≤◌, Bool, true, false, cond, ltb, leb, List, [], ◌∷◌, ◌++◌, length, take, drop, sym, refl, ap, ◌∙◌, suc-le-suc, le_of_suc-le-suc, not-suc-le-zero, arith, length-append}
 use Rattle.std.proofs.lemmas.List.{take_rest, take-append-le}
 use Rattle.std.proofs.lemmas.Bool.{and_parts, and_from, leb-true, le-leb, true≢false}
 use Rattle.host.specs.declared.first.First.{First}
 use Rattle.host.specs.declared.first.First.TheVariants.{Spoiled, Found}
-use Rattle.host.specs.declared.item.Item.{Item}
 use Rattle.host.specs.Firsts.{StandsFirst}
 use Rattle.host.specs.Tapes.{size, whole, item_of, items_from, spoiled_from, items, spoiled, first_on}
 
@@ -26,7 +25,7 @@ stands_at : (c : ℕ) (bs : List ℕ) (b : Bool) → whole c bs ≡ b → Stands
 stands_at c bs false w = (rw w, rw w)
 stands_at c bs true w =
     let rest : take (length (c ∷ bs) - suc (size c)) (drop (size c) bs) ≡ drop (size c) bs = take_rest (c ∷ bs) (suc (size c)) in (
-      suc_le_suc (whole_fits c bs w),
+      suc-le-suc (whole_fits c bs w),
       rw w (ap (λ l. item_of c (take (size c) bs) ∷ l) (items_skip (size c) bs ∙ ap items (sym rest))),
       rw w (spoiled_skip (size c) bs ∙ ap spoiled (sym rest)),
     )

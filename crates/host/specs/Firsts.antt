@@ -1,5 +1,5 @@
 -- What stands first on an input.
-use Rattle.std.specs.Prelude.{◌≡◌, ℕ, ◌-◌, ◌≤◌, Bool, true, false, List, [], ◌∷◌, length, take, drop}
+use Rattle.std.specs.Prelude.{◌≡◌, ◌-◌, ◌≤◌, Bool, true, false, List, [], ◌∷◌, length, take, drop}
 use Rattle.host.specs.declared.first.First.{First}
 use Rattle.host.specs.declared.first.First.TheVariants.{Nothing, Spoiled, Found}
 use Rattle.host.specs.declared.item.Item.{Item}

@@ -1,5 +1,5 @@
 -- The questions that getting and writing ask of a host.
-use Rattle.std.specs.Prelude.{◌≡◌, ℕ, ◌<◌, Bool, true, false, ◌||◌, List, [], ◌∷◌, Ok, Err, Result, nat_lt}
+use Rattle.std.specs.Prelude.{◌≡◌, ◌<◌, Bool, true, false, ◌||◌, List, [], ◌∷◌, Ok, Err, Result, nat_lt}
 use Rattle.host.specs.declared.item.Item.{Item}
 use Rattle.host.specs.declared.item.Kind.{Kind}
 use Rattle.host.specs.declared.refusal.Refusal.{Refusal}

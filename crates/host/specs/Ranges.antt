@@ -1,5 +1,5 @@
 -- The ranges of items.
-use Rattle.std.specs.Prelude.{ℕ, ◌^◌, ◌<◌}
+use Rattle.std.specs.Prelude.{◌^◌, ◌<◌}
 use Rattle.host.specs.declared.item.Item.{Item}
 use Rattle.host.specs.declared.item.Item.TheVariants.{Number, Real, Character}
 

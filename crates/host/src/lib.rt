@@ -1,5 +1,7 @@
 //! Hosts: the side that gives a program its readings and takes its results.
 
+#![tactic(auto)]
+
 mod first;
 pub mod host;
 pub mod item;

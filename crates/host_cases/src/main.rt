@@ -10,6 +10,8 @@
 //! an item of that kind; `number=X` and so on writes one, with X in hexadecimal. For each case it prints whether there
 //! is room, what each call answered, what was written, and whether the output past it is as it was.
 
+#![tactic(auto)]
+
 mod calls;
 mod sheets;
 mod tapes;

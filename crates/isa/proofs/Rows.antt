@@ -1,9 +1,9 @@
 -- The table's rules: each opcode stands at the place of its code, and a search by name finds what it looks for.
-use Rattle.std.proofs.Common.{◌≡◌, ℕ, zero, suc, ◌+◌, ◌<◌, ◌≤◌, Bool, true, false, cond, ◌&&◌, eqb, List, [], ◌∷◌, length, get_or, drop, IfSome, Some, None, Decides, Option, sym, refl, ap, ◌∙◌, subst, arith, rules}
+use Rattle.std.proofs.Common.{◌≡◌, ℕ, zero, suc, ◌+◌, ◌<◌, ◌≤◌, Bool, true, false, ◌&&◌, eqb, List, [], ◌∷◌, length, get_or, drop, IfSome, Some, None, Decides, Option, sym, refl, ap, ◌∙◌, subst, arith, rules}
 use Rattle.std.specs.Str.{bytes_eq}
 use Rattle.std.proofs.lemmas.Slice.Eq.{bytes_eq-Decides}
 use Rattle.std.proofs.lemmas.List.{at_drop_more, at_drop_all}
-use Rattle.std.proofs.lemmas.Bool.{cond_true, cond-false, and_parts, eqb-true, cond_both}
+use Rattle.std.proofs.lemmas.Bool.{cond-true, cond-false, and_parts, eqb-true, cond_both}
 use Rattle.std.proofs.lemmas.Bool.Decides.{same_from_decides}
 use Rattle.isa.specs.declared.opcode.Opcode.{Opcode}
 use Rattle.isa.specs.declared.opcode.Opcode.TheVariants.{Halt}
@@ -68,7 +68,7 @@ named_back w (o ∷ os) =
 
 module _ (w : List ℕ) (os : List Opcode) (i : ℕ) (r : Bool) (within : i < length os) (test : Decides r (name_of (get_or os i Halt) ≡ w)) where
   pub find_here : r ≡ true → first_named w (drop i os) ≡ Some (get_or os i Halt)
-  find_here e = at_drop_more (first_named w) os i Halt within ∙ cond_true _ _ _ (sym (same_from_decides r _ test (bytes_eq-Decides _ _)) ∙ e)
+  find_here e = at_drop_more (first_named w) os i Halt within ∙ cond-true _ _ _ (sym (same_from_decides r _ test (bytes_eq-Decides _ _)) ∙ e)
 
   pub find_on : r ≡ false → first_named w (drop i os) ≡ first_named w (drop (i + 1) os)
   find_on e = at_drop_more (first_named w) os i Halt within ∙ cond-false _ _ _ (sym (same_from_decides r _ test (bytes_eq-Decides _ _)) ∙ e)

@@ -1,14 +1,14 @@
 -- Words and their fields.
-use Rattle.std.proofs.Common.{◌≡◌, ℕ, ◌+◌, ◌-◌, ◌*◌, ◌/◌, ◌%◌, ◌^◌, ◌<◌, ◌≤◌, Bool, true, false, cond, eqb, ltb, ℤ, pos, negsuc, Some, None, Option, sym, refl, ap, ◌∙◌, subst, mod-eq_of_lt, arith, rules}
+use Rattle.std.proofs.Common.{◌≡◌, ℕ, ◌+◌, ◌-◌, ◌*◌, ◌%◌, ◌^◌, ◌<◌, ℤ, pos, negsuc, Some, sym, refl, ap, ◌∙◌, mod-eq_of_lt, arith, rules}
 use lib.Bits.{bit_or}
 use lib.Signed.{mag}
 use Rattle.std.proofs.lemmas.Nat.{or_shifted}
-use Rattle.std.proofs.lemmas.Bool.{cond_true, cond-false, lt-ltb, le-ltb, eq-eqb}
+use Rattle.std.proofs.lemmas.Bool.{cond-true, cond-false, lt-ltb, le-ltb, eq-eqb}
 use Rattle.isa.specs.declared.form.Form.{Form}
 use Rattle.isa.specs.declared.form.Form.TheVariants.{Rr, Ri, Rm, J}
 use Rattle.isa.specs.declared.opcode.Opcode.{Opcode}
 use Rattle.isa.specs.declared.operands.Operands.{Operands}
-use Rattle.isa.specs.Command.{Plain, instruction, with_opcode, with_operands, operand_bits, operands_in, encoded, decoded}
+use Rattle.isa.specs.Command.{instruction, with_opcode, with_operands, operand_bits, operands_in, encoded, decoded}
 use Rattle.isa.specs.Fields.{code_field, first_field, source_field, modifier_field, immediate_field, address_field, signed, bits}
 use Rattle.isa.specs.Operands.{Numbers, rr, ri, rm, j, numbers_in, form_in, ordinal}
 use Rattle.isa.specs.Table.{code_of, form_of, opcode_at}
@@ -20,7 +20,7 @@ put a k b h l = rw mod-eq_of_lt (or_shifted a k b l)
 
 -- the k bits of a number that they hold, read back
 pub signed_bits : (k : ℕ) (z : ℤ) → 2 ^ k ≡ 2 * 2 ^ (k - 1) → mag z < 2 ^ (k - 1) → signed k (bits k z) ≡ z
-signed_bits k (pos n) e h = cond_true _ _ _ (lt-ltb n (2 ^ (k - 1)) h)
+signed_bits k (pos n) e h = cond-true _ _ _ (lt-ltb n (2 ^ (k - 1)) h)
 signed_bits k (negsuc n) e h =
     cond-false _ _ _ (le-ltb (2 ^ k - 1 - n) (2 ^ (k - 1)) (omega arith)) ∙ ap negsuc (omega arith)
 
@@ -51,7 +51,7 @@ module _ (c a l w : ℕ) (e : w ≡ c * 2 ^ 24 + (a * 2 ^ 20 + l)) (first : a < 
   in_rm = ap (λ x. Some (rm x (address_field w))) first_is ∙ ap (λ x. Some (rm a x)) low_is
 
   pub in_j : a ≡ 0 → operands_in J w ≡ Some (j l)
-  in_j z = cond_true _ _ _ (eq-eqb (first_field w) 0 (first_is ∙ z)) ∙ ap (λ x. Some (j x)) low_is
+  in_j z = cond-true _ _ _ (eq-eqb (first_field w) 0 (first_is ∙ z)) ∙ ap (λ x. Some (j x)) low_is
 
   pub in_rr : (b : ℕ) (m : ℤ) → b < 16 → mag m < 2 ^ 15 → l ≡ b * 2 ^ 16 + bits 16 m → operands_in Rr w ≡ Some (rr a b m)
   in_rr b m hb hm lo =

@@ -1,5 +1,7 @@
 //! The instruction set: opcodes, registers, operands, and the 32-bit words that commands are.
 
+#![tactic(auto)]
+
 pub mod address;
 pub mod command;
 pub mod form;

@@ -1,7 +1,7 @@
 -- The lines of a text divide it, the words of a line divide the line, and a word stands at its place.
 use Rattle.std.proofs.Common.{◌≡◌, ℕ, ◌+◌, ◌-◌, ◌≤◌, Bool, true, false, ◌&&◌, ◌||◌, eqb, List, [], ◌∷◌, ◌++◌, length, get_or, take, drop, is_some, sym, refl, ap, ◌∙◌, subst, arith}
 use Rattle.std.specs.List.{between}
-use Rattle.std.proofs.lemmas.Bool.{cond_true, cond-false, cond_both, eqb-true, true≢false}
+use Rattle.std.proofs.lemmas.Bool.{cond-true, cond-false, cond_both, eqb-true, true≢false}
 use Rattle.std.proofs.lemmas.List.{append_assoc, length-take, length-take-le, take_all, take-take}
 use Rattle.lexer.specs.declared.inside.Inside.{Inside}
 use Rattle.lexer.specs.declared.inside.Inside.TheVariants.{Gap, Plain, Quoted, Taken}
@@ -23,7 +23,7 @@ lines_some [] = ([], [], refl, record { whole = refl; apart = (tt, tt) })
 lines_some (b ∷ bs) =
     let (l, ls, is, d) = lines_some bs in
     by_bool (eqb b 10)
-    (λ e. ([], l ∷ ls, cond_true _ _ _ e ∙ ap (λ m. [] ∷ m) is, record { whole = ap (λ m. 10 ∷ m) d.whole ∙ ap (λ c. c ∷ bs) (sym (eqb-true b 10 e)); apart = (tt, d.apart) }))
+    (λ e. ([], l ∷ ls, cond-true _ _ _ e ∙ ap (λ m. [] ∷ m) is, record { whole = ap (λ m. 10 ∷ m) d.whole ∙ ap (λ c. c ∷ bs) (sym (eqb-true b 10 e)); apart = (tt, d.apart) }))
     (λ e. (b ∷ l, ls, cond-false _ _ _ e ∙ ap (on_first b) is, record { whole = rejoined_more b l ls ∙ ap (λ m. b ∷ m) d.whole; apart = ((e, d.apart.0), d.apart.1) }))
 
 -- the lines of a text divide it
@@ -98,19 +98,19 @@ in_gap b bs gap bare open' = by_bool (blank b)
     (λ e. simp e (blank_front b bs (spelled Gap bs) e gap))
     (λ e. let to : spelled Gap (b ∷ bs) ≡ on_first b (spelled (onward Gap b) bs) = cond-false _ _ _ e in
     by_bool (eqb b 34)
-    (λ q. led_divided (b ∷ bs) (led_more Open Whole b Quoted Gap bs (to ∙ ap (λ p. on_first b (spelled p bs)) (cond_true (eqb b 34) Quoted Plain q)) (λ w rest h. subst (λ c. Whole (c ∷ w) rest) (sym (eqb-true b 34 q)) h) open'))
+    (λ q. led_divided (b ∷ bs) (led_more Open Whole b Quoted Gap bs (to ∙ ap (λ p. on_first b (spelled p bs)) (cond-true (eqb b 34) Quoted Plain q)) (λ w rest h. subst (λ c. Whole (c ∷ w) rest) (sym (eqb-true b 34 q)) h) open'))
     (λ q. led_divided (b ∷ bs) (led_more Bare Whole b Plain Gap bs (to ∙ ap (λ p. on_first b (spelled p bs)) (cond-false (eqb b 34) Quoted Plain q)) (λ w rest h. plain b w refl q (e, h.0) h.1) bare)))
 
 in_plain : (b : ℕ) (bs : List ℕ) → Divided bs (spelled Gap bs) → Led Bare Plain bs → Led Bare Plain (b ∷ bs)
 in_plain b bs gap bare = by_bool (blank b)
-    (λ e. record { word = []; rest = b ∷ bs; more = spelled Gap bs; spells = cond_true _ _ _ e; parts = refl; ends = (tt, e); divided = blank_front b bs (spelled Gap bs) e gap })
+    (λ e. record { word = []; rest = b ∷ bs; more = spelled Gap bs; spells = cond-true _ _ _ e; parts = refl; ends = (tt, e); divided = blank_front b bs (spelled Gap bs) e gap })
     (λ e. led_more Bare Bare b Plain Plain bs (cond-false _ _ _ e) (λ w rest h. ((e, h.0), h.1)) bare)
 
 in_quoted : (b : ℕ) (bs : List ℕ) → Led Bare Plain bs → Led Open Quoted bs → Led Escaped Taken bs → Led Open Quoted (b ∷ bs)
 in_quoted b bs bare open' escaped = by_bool (eqb b 34)
-    (λ q. led_more Bare Open b Plain Quoted bs (ap (λ p. on_first b (spelled p bs)) (cond_true (eqb b 34) Plain _ q)) (λ w rest h. quoted [] w (ap (λ c. 34 ∷ c ∷ w) (eqb-true b 34 q)) tt h.0 h.1) bare)
+    (λ q. led_more Bare Open b Plain Quoted bs (ap (λ p. on_first b (spelled p bs)) (cond-true (eqb b 34) Plain _ q)) (λ w rest h. quoted [] w (ap (λ c. 34 ∷ c ∷ w) (eqb-true b 34 q)) tt h.0 h.1) bare)
     (λ q. by_bool (eqb b 92)
-    (λ s. led_more Escaped Open b Taken Quoted bs (ap (λ p. on_first b (spelled p bs)) (cond-false (eqb b 34) Plain _ q ∙ cond_true (eqb b 92) Taken Quoted s)) (λ w rest h. after_backslash b w rest s h) escaped)
+    (λ s. led_more Escaped Open b Taken Quoted bs (ap (λ p. on_first b (spelled p bs)) (cond-false (eqb b 34) Plain _ q ∙ cond-true (eqb b 92) Taken Quoted s)) (λ w rest h. after_backslash b w rest s h) escaped)
     (λ s. led_more Open Open b Quoted Quoted bs (ap (λ p. on_first b (spelled p bs)) (cond-false (eqb b 34) Plain _ q ∙ cond-false (eqb b 92) Taken Quoted s)) (λ w rest h. deeper (b ∷ []) w rest (λ cs. inner_more b cs q s) h) open'))
 
 from_each : (bs : List ℕ) → Divided bs (spelled Gap bs) × Led Bare Plain bs × Led Open Quoted bs × Led Escaped Taken bs

@@ -1,13 +1,13 @@
 -- A line is its first word and the words of what is left; a text is its first line and the lines of what is left.
-use Rattle.std.proofs.Common.{◌≡◌, ℕ, suc, ◌+◌, ◌<◌, ◌≤◌, Bool, true, false, cond, not, eqb, List, [], ◌∷◌, length, get_or, take, drop, Some, Option, sym, refl, ap, ◌∙◌, subst, ⊎_elim, arith}
-use Rattle.std.proofs.lemmas.Bool.{cond_true, cond-false, cond_both, cases_Bool, cases_lt, le-leb, lt-leb}
-use Rattle.std.proofs.lemmas.List.{at_drop_all, drop-drop, length-drop, take_all, take-take, length-take-le}
+use Rattle.std.proofs.Common.{◌≡◌, ℕ, suc, ◌+◌, ◌<◌, ◌≤◌, Bool, true, false, eqb, List, [], ◌∷◌, length, get_or, take, drop, Some, Option, sym, refl, ap, ◌∙◌, subst, ⊎_elim, arith}
+use Rattle.std.proofs.lemmas.Bool.{cond-true, cond-false, cond_both, cases_Bool, cases_lt, le-leb, lt-leb}
+use Rattle.std.proofs.lemmas.List.{at_drop_all, drop-drop, length-drop, take_all, take-take}
 use Rattle.std.proofs.lemmas.Slice.{between_is}
 use Rattle.std.specs.List.{between}
 use Rattle.lexer.specs.declared.inside.Inside.{Inside}
 use Rattle.lexer.specs.declared.inside.Inside.TheVariants.{Gap, Plain, Quoted, Taken}
 use Rattle.lexer.specs.Shown.{Shown, sorted, first_told, first_shown}
-use Rattle.lexer.specs.Text.{on_first, lines_of, run_to, blank, blanks, onward, spelled, word_left, before, tail_of, lines_left, words_of}
+use Rattle.lexer.specs.Text.{on_first, lines_of, run_to, blank, blanks, onward, spelled, word_left, before, tail_of, lines_left}
 
 pub by_bool : {P : Type 0} (t : Bool) → (t ≡ true → P) → (t ≡ false → P) → P
 by_bool t f g = ⊎_elim f g (cases_Bool t)
@@ -99,10 +99,10 @@ pub line_on : (text : List ℕ) (at n : ℕ) → at ≤ length text → n ≡ ru
 line_on text at n within n_is short =
     let rest = drop at text in
     let long = length-drop at text in
-    let here : lines_left text at ≡ lines_of rest = cond_true _ _ _ (le-leb at (length text) within) in
+    let here : lines_left text at ≡ lines_of rest = cond-true _ _ _ (le-leb at (length text) within) in
     ⊎_elim
     (λ (h : n < length rest).
-    let on : lines_left text (at + n + 1) ≡ lines_of (drop (suc n) rest) = cond_true _ _ _ (le-leb (at + n + 1) (length text) (omega arith)) ∙ ap lines_of (ap (λ i. drop i text) (let e : at + n + 1 ≡ at + suc n = omega arith in e) ∙ sym (drop-drop (suc n) at text)) in
+    let on : lines_left text (at + n + 1) ≡ lines_of (drop (suc n) rest) = cond-true _ _ _ (le-leb (at + n + 1) (length text) (omega arith)) ∙ ap lines_of (ap (λ i. drop i text) (let e : at + n + 1 ≡ at + suc n = omega arith in e) ∙ sym (drop-drop (suc n) at text)) in
     let one : lines_of rest ≡ take n rest ∷ lines_of (drop (suc n) rest) = (let P : ℕ → Type 0 = λ i. lines_of rest ≡ take i rest ∷ lines_of (drop (suc i) rest) in subst P (sym n_is) (first_line rest (omega arith))) in
     here ∙ one ∙ ap (λ l. take n rest ∷ l) (sym on))
     (λ (h : length rest ≤ n).

@@ -1,5 +1,7 @@
 //! The lexer: lines of a text, words of a line, kinds of words.
 
+#![tactic(auto)]
+
 pub mod escape;
 mod inside;
 pub mod lines;

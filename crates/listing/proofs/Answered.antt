@@ -1,18 +1,16 @@
 -- What the listing call answers for an accepted executable.
-use Rattle.std.proofs.Common.{◌≡◌, ℕ, ◌+◌, ◌-◌, ◌*◌, ◌^◌, ◌<◌, ◌≤◌, min, Bool, true, false, cond, leb, List, [], ◌∷◌, ◌++◌, length, drop, Ok, Err, Result, sym, refl, ap, ◌∙◌, subst, arith}
-use Rattle.std.proofs.lemmas.Bool.{cond_true, cond-false, le-leb, lt-leb}
+use Rattle.std.proofs.Common.{◌≡◌, ℕ, ◌+◌, ◌-◌, ◌*◌, ◌^◌, ◌<◌, ◌≤◌, min, true, false, List, length, Ok, Err, sym, ap, ◌∙◌, subst, arith}
+use Rattle.std.proofs.lemmas.Bool.{cond-true, cond-false, le-leb, lt-leb}
 use Rattle.executable.specs.Check.{Parts, parts_in, checked}
 use Rattle.executable.specs.Questions as executable
 use Rattle.executable.specs.declared.refusal.Refusal as refused
 use Rattle.executable.specs.declared.refusal.Refusal.TheVariants.{TooShort, NoMark, OtherProcessor, FillerNotZero, BadSizes, OtherLength, AddressTooLarge}
 use Rattle.executable.proofs.Accepted.{accepted}
-use Rattle.listing.specs.Listing.{listing, room_for, listed_parts, listed, length_of, output_after, asked}
+use Rattle.listing.specs.Listing.{listing, room_for, listed_parts, listed, asked}
 use Rattle.listing.specs.Numbers.{number_of}
-use Rattle.output.specs.Overlay.{overlay, Wrote}
 use Rattle.listing.specs.declared.refusal.Refusal.{Refusal}
 use Rattle.listing.specs.declared.refusal.Refusal.TheVariants.{Executable, OutputTooShort}
 use Rattle.listing.proofs.Room.{Bytes, listing_length, executable_length}
-use Rattle.output.proofs.Writes.{overlay_whole}
 
 module _ (bs : List ℕ) (p : Parts) (is : Ok p ≡ checked bs) (each : (q : refused.Refusal) → executable.asked q bs ≡ true) (typed : Bytes bs) where
   pub the_parts : p ≡ parts_in bs
@@ -35,7 +33,7 @@ module _ (bs : List ℕ) (p : Parts) (is : Ok p ≡ checked bs) (each : (q : ref
   pub with_room : (room : ℕ) → length (listing p) ≤ room → (listed bs room ≡ Ok (listing p)) × (room_for (parts_in bs) room ≡ true)
   with_room room h =
       let t = le-leb (length (listing p)) room h in (
-        ap (λ r. listed_parts r room) (sym is) ∙ cond_true _ _ _ t,
+        ap (λ r. listed_parts r room) (sym is) ∙ cond-true _ _ _ t,
         ap (λ x. room_for x room) (sym the_parts) ∙ t,
       )
 

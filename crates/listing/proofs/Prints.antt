@@ -1,7 +1,7 @@
 -- What stands on the page of the listing program.
-use Rattle.std.proofs.Common.{◌≡◌, ℕ, ◌+◌, ◌-◌, ◌*◌, ◌^◌, ◌<◌, ◌≤◌, min, Bool, true, false, cond, ltb, leb, List, [], ◌∷◌, ◌++◌, length, take, drop, Ok, Err, Result, sym, refl, ap, ◌∙◌, subst, arith, rules}
+use Rattle.std.proofs.Common.{◌≡◌, ℕ, ◌^◌, ◌<◌, ◌≤◌, true, false, List, length, take, drop, Ok, Err, Result, sym, refl, ap, ◌∙◌, arith, rules}
 use Rattle.std.proofs.lemmas.List.{take_at}
-use Rattle.std.proofs.lemmas.Bool.{cond_true, cond-false, cond_both, le-leb, leb-true, lt-ltb, le-ltb, both_ways}
+use Rattle.std.proofs.lemmas.Bool.{cond-true, cond-false, cond_both, le-leb, leb-true, lt-ltb, le-ltb, both_ways}
 use Rattle.executable.specs.Check.{Parts, parts_in, checked}
 use Rattle.executable.specs.Numbers as numbers
 use Rattle.executable.specs.Questions as executable
@@ -9,8 +9,7 @@ use Rattle.executable.specs.declared.refusal.Refusal as refused
 use Rattle.executable.specs.declared.refusal.Refusal.TheVariants.{TooShort, NoMark, OtherProcessor, FillerNotZero, BadSizes, OtherLength, AddressTooLarge}
 use Rattle.executable.proofs.Accepted.{accepted}
 use Rattle.listing.specs.Listing.{listing, room_for, listed_parts, listed, length_of, output_after, asked, OnlyFirstNo}
-use Rattle.listing.specs.Numbers.{number_of}
-use Rattle.output.specs.Overlay.{overlay, Wrote}
+use Rattle.output.specs.Overlay.{Wrote}
 use Rattle.listing.specs.Printout.{taken, text_of, is_refused}
 use Rattle.listing.specs.declared.refusal.Refusal.{Refusal}
 use Rattle.listing.specs.declared.refusal.Refusal.TheVariants.{Executable, OutputTooShort}
@@ -33,7 +32,7 @@ pub short_input : (bs : List ℕ) → length bs ≤ 8192 → taken bs ≡ checke
 short_input bs h = cond-false _ _ _ (le-ltb 8192 (length bs) h)
 
 pub long_input : (bs : List ℕ) → 8192 < length bs → taken bs ≡ Err OtherLength
-long_input bs h = cond_true _ _ _ (lt-ltb 8192 (length bs) h)
+long_input bs h = cond-true _ _ _ (lt-ltb 8192 (length bs) h)
 
 module _ (bs : List ℕ) (room : ℕ) (each : (q : refused.Refusal) → executable.asked q bs ≡ true) where
   parts_are : checked bs ≡ Ok (parts_in bs)
@@ -44,7 +43,7 @@ module _ (bs : List ℕ) (room : ℕ) (each : (q : refused.Refusal) → executab
   fits_page typed h r = le-leb (length (listing (parts_in bs))) room (omega (arith, listing_length bs typed (each OtherLength) (each AddressTooLarge)))
 
   pub listed_is : room_for (parts_in bs) room ≡ true → listed bs room ≡ Ok (listing (parts_in bs))
-  listed_is t = ap (λ r. listed_parts r room) parts_are ∙ cond_true _ _ _ t
+  listed_is t = ap (λ r. listed_parts r room) parts_are ∙ cond-true _ _ _ t
 
   pub taken_is : length bs ≤ 8192 → taken bs ≡ Ok (parts_in bs)
   taken_is h = short_input bs h ∙ parts_are

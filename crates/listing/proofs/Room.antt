@@ -1,10 +1,10 @@
 -- How long a listing can be.
-use Rattle.std.proofs.Common.{◌≡◌, ℕ, suc, ◌+◌, ◌-◌, ◌*◌, ◌/◌, ◌%◌, ◌^◌, ◌<◌, ◌≤◌, min, Bool, true, false, cond, ◌&&◌, eqb, ltb, leb, List, [], ◌∷◌, ◌++◌, map, length, get_or, take, drop, ℤ, pos, negsuc, Some, None, codes, decimal, Option, sym, refl, ap, ◌∙◌, ⊎_elim, arith, length-append, length-drop, length-take, rules}
+use Rattle.std.proofs.Common.{◌≡◌, ℕ, suc, ◌+◌, ◌-◌, ◌*◌, ◌%◌, ◌^◌, ◌<◌, ◌≤◌, true, ◌&&◌, eqb, ltb, leb, List, [], ◌∷◌, ◌++◌, map, length, get_or, take, drop, pos, negsuc, Some, None, codes, decimal, Option, sym, refl, ap, ◌∙◌, ⊎_elim, arith, length-append, length-drop, length-take, rules}
 use lib.Signed.{mag}
 use Rattle.std.specs.List.{flat_map}
 use Rattle.std.specs.Fmt.{signed_decimal}
 use Rattle.std.proofs.lemmas.Fmt.{length-decimal-le, length_signed_le}
-use Rattle.std.proofs.lemmas.List.{get_or-take, get_or-drop, get_or_past, append-nil, append_assoc}
+use Rattle.std.proofs.lemmas.List.{get_or-take, get_or-drop, get_or_past, append_assoc}
 use Rattle.std.proofs.lemmas.Bool.{cases_lt, cond_both, ltb-true, ltb-false, leb-true, eqb-true, and_parts}
 use Rattle.isa.specs.Command.{with_opcode, with_operands, operands_in}
 use Rattle.isa.specs.Fields.{code_field, first_field, source_field, modifier_field, immediate_field, address_field}
@@ -14,11 +14,11 @@ use Rattle.isa.specs.Table.{name_of, form_of, opcode_at}
 use Rattle.isa.specs.declared.form.Form.{Form}
 use Rattle.isa.specs.declared.form.Form.TheVariants.{Rr, Ri, Rm, J}
 use Rattle.isa.specs.declared.opcode.Opcode.{Opcode}
-use Rattle.executable.specs.Bytes.{words_of, little_endian}
+use Rattle.executable.specs.Bytes.{words_of}
 use Rattle.executable.specs.Check.{Parts, parts_in}
 use Rattle.executable.specs.Questions.{code_size, constants_size, first_instruction, stack_pointer, right_sizes, right_length, right_addresses}
 use Rattle.listing.specs.Lines.{after_blank, line_text, number_line, register_name, code_line, word_line}
-use Rattle.listing.specs.Listing.{listing_lines, listing}
+use Rattle.listing.specs.Listing.{listing}
 use Rattle.executable.specs.declared.segment.Segment.{Segment}
 use Rattle.executable.specs.declared.segment.Segment.TheVariants.{Code, Constants}
 use Rattle.listing.proofs.Turns.{words_length}

@@ -1,5 +1,7 @@
 //! The listing: the assembler text of an executable.
 
+#![tactic(auto)]
+
 mod line;
 pub mod list;
 pub mod printout;

@@ -1,5 +1,5 @@
 -- Numerals that may have a minus in front.
-use Rattle.std.specs.Prelude.{ℕ, zero, suc, ◌-◌, ◌^◌, min, cond, List, [], ◌∷◌, ℤ, pos, negsuc, Some, None, Option, ◌==◌}
+use Rattle.std.specs.Prelude.{ℕ, zero, suc, ◌-◌, ◌^◌, min, cond, List, [], ◌∷◌, ℤ, pos, negsuc, None, Option, ◌==◌}
 use Rattle.std.specs.Option.{option_map}
 use Rattle.numerals.specs.Natural.{natural}
 

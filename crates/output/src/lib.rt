@@ -1,3 +1,5 @@
 //! Writing into an output that the caller lends.
 
+#![tactic(auto)]
+
 pub mod put;

@@ -1,5 +1,5 @@
 -- Levels and their numbers, in lists.
-use Rattle.std.proofs.Common.{◌≡◌, ℕ, zero, suc, ◌<◌, List, [], ◌∷◌, map, get_or, Some, None, Option, refl, ap, arith}
+use Rattle.std.proofs.Common.{◌≡◌, ℕ, zero, suc, ◌<◌, List, [], ◌∷◌, map, get_or, Some, refl, ap, arith}
 use Rattle.permit.specs.declared.level.Level.{Level}
 use Rattle.permit.specs.declared.level.Level.TheVariants.{Open, NoWriting, Neither}
 use Rattle.permit.specs.Levels.{number_of, level_at}

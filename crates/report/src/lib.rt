@@ -1,5 +1,7 @@
 //! What the assembling program prints.
 
+#![tactic(auto)]
+
 mod label;
 pub mod meaning;
 pub mod refused;

@@ -1,13 +1,13 @@
 -- What the calls over listing and assembling answer.
-use Rattle.std.proofs.Common.{◌≡◌, ℕ, ◌<◌, ◌≤◌, Bool, true, false, cond, leb, List, [], ◌++◌, length, take, drop, Some, None, Ok, Err, Decides, Result, sym, refl, ap, ◌∙◌, subst, arith}
+use Rattle.std.proofs.Common.{◌≡◌, ℕ, ◌<◌, ◌≤◌, Bool, true, List, [], length, take, drop, Some, None, Ok, Err, Decides, Result, sym, ap, ◌∙◌, arith}
 use Rattle.std.specs.Str.{bytes_eq}
 use Rattle.std.proofs.lemmas.Slice.Eq.{bytes_eq-Decides}
 use Rattle.std.proofs.lemmas.List.{take-append-le, take_all}
-use Rattle.std.proofs.lemmas.Bool.{cond_true, cond-false, le-leb, lt-leb}
+use Rattle.std.proofs.lemmas.Bool.{cond-true, cond-false, le-leb, lt-leb}
 use Rattle.std.proofs.lemmas.Bool.Decides.{same_from_decides}
-use Rattle.executable.specs.Check.{parts_in, checked}
+use Rattle.executable.specs.Check.{parts_in}
 use Rattle.executable.specs.declared.refusal.Refusal.TheVariants.{TooShort, NoMark, OtherProcessor, FillerNotZero, BadSizes, OtherLength, AddressTooLarge}
-use Rattle.listing.specs.Listing.{listing, listed, listed_parts, asked, room_for, length_of, output_after}
+use Rattle.listing.specs.Listing.{listing, listed, listed_parts, asked, length_of, output_after}
 use Rattle.listing.specs.declared.refusal.Refusal.{Refusal}
 use Rattle.listing.specs.declared.refusal.Refusal.TheVariants.{Executable, OutputTooShort}
 use Rattle.roundtrip.specs.Laws.{Bytes, Accepted}
@@ -25,9 +25,9 @@ module _ (bs : List ℕ) (room : ℕ) (yes : (q : Refusal) → asked q bs room �
 
   pub listed_whole : listed bs room ≡ Ok (listing (parts_in bs))
   listed_whole =
-      ap (λ p. listed_parts p room) (cond_true _ _ _ (yes (Executable TooShort)) ∙ cond_true _ _ _ (yes (Executable NoMark)) ∙ cond_true _ _ _ (yes (Executable OtherProcessor)) ∙ cond_true _ _ _ (yes (Executable FillerNotZero))
-      ∙ cond_true _ _ _ (yes (Executable BadSizes)) ∙ cond_true _ _ _ (yes (Executable OtherLength)) ∙ cond_true _ _ _ (yes (Executable AddressTooLarge)))
-      ∙ cond_true _ _ _ (yes OutputTooShort)
+      ap (λ p. listed_parts p room) (cond-true _ _ _ (yes (Executable TooShort)) ∙ cond-true _ _ _ (yes (Executable NoMark)) ∙ cond-true _ _ _ (yes (Executable OtherProcessor)) ∙ cond-true _ _ _ (yes (Executable FillerNotZero))
+      ∙ cond-true _ _ _ (yes (Executable BadSizes)) ∙ cond-true _ _ _ (yes (Executable OtherLength)) ∙ cond-true _ _ _ (yes (Executable AddressTooLarge)))
+      ∙ cond-true _ _ _ (yes OutputTooShort)
 
   -- the listing stands at the begin of the output
   pub on_page : (out result : List ℕ) (n : ℕ) → Ok n ≡ length_of (listed bs room) → result ≡ output_after (listed bs room) out → take n result ≡ listing (parts_in bs)
@@ -48,7 +48,7 @@ module _ (bs : List ℕ) (text_room : ℕ) (bytes : Bytes bs) (yes : (q : Refusa
   again = ap (λ x. assembled x 0 (length out)) t_is ∙ roomy bs (length out) bytes (accepted bs text_room yes) fits
 
   is_rebuilt : rebuilt bs text_room (length out) ≡ Ok bs
-  is_rebuilt = ap (rebuilt_from bs (length out)) (listed_whole bs text_room yes) ∙ cond_true _ _ _ (le-leb (length bs) (length out) fits)
+  is_rebuilt = ap (rebuilt_from bs (length out)) (listed_whole bs text_room yes) ∙ cond-true _ _ _ (le-leb (length bs) (length out) fits)
 
   pub rebuilt_length : (n : ℕ) → Some n ≡ result_ok (answer_of (assembled t 0 (length out))) → Ok n ≡ length_is (rebuilt bs text_room (length out))
   rebuilt_length n e = let s : Some n ≡ Some (length bs) = e ∙ ap (λ a. result_ok (answer_of a)) again in let k : n ≡ length bs = cc in ap Ok k ∙ sym (ap length_is is_rebuilt)

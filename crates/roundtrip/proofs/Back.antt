@@ -1,6 +1,6 @@
 -- A listing assembles to what it was printed from.
 use Rattle.std.proofs.Common.{◌≡◌, ℕ, ◌+◌, ◌*◌, ◌≤◌, true, leb, List, [], ◌++◌, length, drop, None, sym, ap, ◌∙◌, arith}
-use Rattle.std.proofs.lemmas.Bool.{cond_true, and_from, le-leb}
+use Rattle.std.proofs.lemmas.Bool.{cond-true, and_from, le-leb}
 use Rattle.executable.specs.Bytes.{words_of}
 use Rattle.executable.specs.Check.{parts_in}
 use Rattle.executable.specs.Questions.{code_size}
@@ -58,7 +58,7 @@ finish t ls room k n p first ws lines ran lost words start fits =
     let pr = state ran.begun ran.stacked ran.constants true k n p in
     ap (after_lines t room) (ap (run_from t 0 [] fresh 1 0) lines ∙ ran.is)
     ∙ ap (lastly t room [] pr) (ap (lost_from t [] 1) lines ∙ lost)
-    ∙ cond_true _ _ _ (le-leb (512 + 4 * (k + n)) room fits)
+    ∙ cond-true _ _ _ (le-leb (512 + 4 * (k + n)) room fits)
     ∙ ap (λ x. good (executable_of k n x p (words_from t [] (lines_of t))) []) (ap (start_from t []) lines ∙ start)
     ∙ ap (λ x. good (executable_of k n first p x) []) (ap (words_from t []) lines ∙ words)
 
@@ -68,7 +68,7 @@ roomy bs room h accepted fits =
     let t = listing (parts_in bs) in
     let cs = words_of (parts_in bs).code in
     let ks = words_of (parts_in bs).constants in
-    cond_true _ _ _ (right bs h accepted)
+    cond-true _ _ _ (right bs h accepted)
     ∙ finish t (closing (listing_lines (parts_in bs))) room (length cs) (length ks) (parts_in bs).stack (parts_in bs).first (cs ++ ks)
     (lines bs h accepted) (ran bs h accepted t) (lost bs h accepted t) (words bs h accepted t) (start bs h accepted t)
     (omega (arith, whole bs accepted, code_words bs accepted, constants_words bs accepted))

@@ -1,6 +1,6 @@
 -- The lines of a listing get a yes to every question.
 use Rattle.std.proofs.Common.{◌≡◌, ℕ, suc, ◌+◌, ◌^◌, ◌<◌, ◌≤◌, Bool, true, false, not, ◌&&◌, ◌||◌, leb, List, [], ◌∷◌, ◌++◌, map, length, is_some, Some, None, codes, Option, sym, refl, ap, ◌∙◌, subst, arith}
-use Rattle.std.proofs.lemmas.Bool.{cond_true, and_from, and_left, and_right, not_from_false, le-leb}
+use Rattle.std.proofs.lemmas.Bool.{cond-true, and_from, and_left, and_right, not_from_false, le-leb}
 use Rattle.executable.specs.declared.segment.Segment.TheVariants.{Code, Constants}
 use Rattle.lexer.specs.Text.{words_of, before, blanks}
 use Rattle.lexer.proofs.Again.{closing, words_of_joined}
@@ -30,7 +30,7 @@ parts_said ws mn m s = ap parts_of (words_of_joined ws s.high) ∙ s.parts
 meaning : (ws : List (List ℕ)) (mn : Mnemonic) (m : Meant) (s : Says ws mn m) → statement_in (saying s.first s.operands) ≡ Some m
 meaning ws mn m s =
     ap (λ o. said_by o s.operands) s.named
-    ∙ cond_true _ _ _ (and_from (right_count mn s.operands) (right_form mn s.operands && right_range mn s.operands) s.count (and_from (right_form mn s.operands) (right_range mn s.operands) s.form s.range))
+    ∙ cond-true _ _ _ (and_from (right_count mn s.operands) (right_form mn s.operands && right_range mn s.operands) s.count (and_from (right_form mn s.operands) (right_range mn s.operands) s.form s.range))
     ∙ ap Some s.means
 
 pub line_says_is : (ws : List (List ℕ)) (mn : Mnemonic) (m : Meant) → Says ws mn m → line_says (blank_joined ws) ≡ Some m
@@ -49,12 +49,12 @@ module _ (t : List ℕ) (cap : ℕ) (b d c : Bool) (k n p : ℕ) (ws : List (Lis
   no_refusal : refusal_in t cap [] (state b d c false k n p) (saying s.first s.operands) ≡ None
   no_refusal =
       let l = saying s.first s.operands in
-      cond_true _ _ _ (ap is_some s.named)
-      ∙ cond_true _ _ _ in_order_yes
-      ∙ cond_true _ _ _ (ap (of_operands right_count l) s.named ∙ s.count)
-      ∙ cond_true _ _ _ (ap (of_operands right_form l) s.named ∙ s.form)
-      ∙ cond_true _ _ _ (ap (of_operands right_range l) s.named ∙ s.range)
-      ∙ cond_true _ _ _ (ap (λ o. leb (k + n + (code_words o + data_words o)) 65536) (meaning ws mn m s) ∙ le-leb (k + n + (code_words (Some m) + data_words (Some m))) 65536 few)
+      cond-true _ _ _ (ap is_some s.named)
+      ∙ cond-true _ _ _ in_order_yes
+      ∙ cond-true _ _ _ (ap (of_operands right_count l) s.named ∙ s.count)
+      ∙ cond-true _ _ _ (ap (of_operands right_form l) s.named ∙ s.form)
+      ∙ cond-true _ _ _ (ap (of_operands right_range l) s.named ∙ s.range)
+      ∙ cond-true _ _ _ (ap (λ o. leb (k + n + (code_words o + data_words o)) 65536) (meaning ws mn m s) ∙ le-leb (k + n + (code_words (Some m) + data_words (Some m))) 65536 few)
 
   after_said : after (state b d c false k n p) (saying s.first s.operands) ≡ on b d c k n p (Some mn) (Some m)
   after_said = ap (λ o. on b d c k n p o (statement_in (saying s.first s.operands))) s.named ∙ ap (on b d c k n p (Some mn)) (meaning ws mn m s)
@@ -86,7 +86,7 @@ run_last t cap p b d c k n i q few =
       begun = b || false;
       stacked = d || false;
       constants = c || false;
-      is = ap (λ r. on_line i [] r (passed [] (state (b || false) (d || false) (c || false) true (k + 0) (n + 0) p))) (cond_true _ _ _ (le-leb (k + n + 0) 65536 (omega arith)));
+      is = ap (λ r. on_line i [] r (passed [] (state (b || false) (d || false) (c || false) true (k + 0) (n + 0) p))) (cond-true _ _ _ (le-leb (k + n + 0) 65536 (omega arith)));
     })
 
 module _ (t : List ℕ) (cap p first : ℕ) (small : first < 2 ^ 20) where

@@ -4,7 +4,7 @@ use lib.Signed.{mag}
 use Rattle.std.specs.Option.{option_map}
 use Rattle.std.specs.Fmt.{signed_decimal}
 use Rattle.std.proofs.lemmas.Fmt.{decimal_by_steps, decimal_digit, decimal_step}
-use Rattle.std.proofs.lemmas.Bool.{cond_true, cond-false, cases_lt, le-leb, ne_eqb, and_from, or_left}
+use Rattle.std.proofs.lemmas.Bool.{cond-true, cond-false, cases_lt, le-leb, ne_eqb, and_from, or_left}
 use Rattle.lexer.specs.Shown.{kind_of, number, register, digit, register_number}
 use Rattle.lexer.proofs.Again.{High}
 use Rattle.listing.specs.Lines.{register_name}
@@ -45,7 +45,7 @@ digits_kind : (ds : List ℕ) → Digits ds → 0 < length ds → kind_of ds ≡
 digits_kind [] h s = absurd (omega arith)
 digits_kind (d ∷ ds) h s =
     cond-false _ _ _ (ne_eqb d 34 (λ e. omega (arith, h.0)))
-    ∙ cond_true _ _ _ (or_left (digit d) (eqb d 45) (and_from (leb 48 d) (leb d 57) (le-leb 48 d h.0) (le-leb d 57 h.1)))
+    ∙ cond-true _ _ _ (or_left (digit d) (eqb d 45) (and_from (leb 48 d) (leb d 57) (le-leb 48 d h.0) (le-leb d 57 h.1)))
 
 pub decimal_number : (n : ℕ) → n < 2 ^ 64 → Number (decimal n)
 decimal_number n h =
@@ -78,13 +78,13 @@ short : (r : ℕ) → r < 10 → Names r (114 ∷ (48 + r) ∷ [])
 short r h =
     let is : digit (48 + r) ≡ true = and_from (leb 48 (48 + r)) (leb (48 + r) 57) (le-leb 48 (48 + r) (omega arith)) (le-leb (48 + r) 57 (omega arith)) in
     let back : 48 + r - 48 ≡ r = omega arith in
-    record { some = omega arith; high = (omega arith, omega arith, (omega arith, omega arith, tt)); kind = simp is; is = cond_true _ _ _ is ∙ ap Some back }
+    record { some = omega arith; high = (omega arith, omega arith, (omega arith, omega arith, tt)); kind = simp is; is = cond-true _ _ _ is ∙ ap Some back }
 
 long : (r : ℕ) → 10 ≤ r → r < 16 → Names r (114 ∷ 49 ∷ (38 + r) ∷ [])
 long r l h =
     let is : (leb 48 (38 + r) && leb (38 + r) 53) ≡ true = and_from (leb 48 (38 + r)) (leb (38 + r) 53) (le-leb 48 (38 + r) (omega arith)) (le-leb (38 + r) 53 (omega arith)) in
     let back : 38 + r - 38 ≡ r = omega arith in
-    record { some = omega arith; high = (omega arith, omega arith, (omega arith, omega arith, (omega arith, omega arith, tt))); kind = simp is; is = cond_true _ _ _ is ∙ ap Some back }
+    record { some = omega arith; high = (omega arith, omega arith, (omega arith, omega arith, (omega arith, omega arith, tt))); kind = simp is; is = cond-true _ _ _ is ∙ ap Some back }
 
 pub register_named : (r : ℕ) → r < 16 → Names r (register_name r)
 register_named r h = ⊎_elim

@@ -14,6 +14,8 @@
 //!   label) is `untouched` or `written`;
 //! - a line for each label, or a checksum of them where they are more than 16.
 
+#![tactic(auto)]
+
 mod bytes;
 mod marks;
 mod sum;

@@ -8,6 +8,8 @@
 //! listing is printed (`text`) or only its length and checksum (`sum`), or what the listing program prints for the
 //! bytes (`printout`; ROOM is not used then).
 
+#![tactic(auto)]
+
 mod bytes;
 mod sum;
 

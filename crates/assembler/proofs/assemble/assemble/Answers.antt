@@ -9,7 +9,7 @@ returns c =
     let t = c.args.text.now in
     let cap = room c.args.labels.now in
     let len = length c.args.out.now in
-    let says = c.assemble-text.ensures in
+    let says = c.assemble_text.ensures in
     record {
       value = says.value;
       labels = says.labels;

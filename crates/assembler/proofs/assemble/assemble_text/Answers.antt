@@ -6,26 +6,26 @@ use Rattle.assembler.specs.Assembled.{passed, run_from, right_text, fresh}
 use Rattle.assembler.proofs.Counts.{done}
 use Rattle.assembler.proofs.assemble.assemble_text.Goals as goal
 
-pub put-executable-requires : goal.put-executable-requires
-put-executable-requires c = c.in-ok-progress.ensures.few
+pub put_executable-requires : goal.put_executable-requires
+put_executable-requires c = c.in_ok-progress.ensures.few
 
 pub returns : goal.returns
 returns c =
     let t = c.args.text.now in
     let out = c.args.out.now in
-    let pr = c.in-ok-progress.progress in
-    let ls = entries c.first-pass.new.labels in
-    let first = c.in-ok-progress.ensures in
+    let pr = c.in_ok-progress.progress in
+    let ls = entries c.first_pass.new.labels in
+    let first = c.in_ok-progress.ensures in
     let cleared = c.clear.ensures.items in
     let told : passed ls pr ≡ run_from t (room c.args.labels.now) [] fresh 1 0 (lines_of t) = first.told ∙ ap (λ i. run_from t (length i) [] fresh 1 0 (lines_of t)) cleared in
-    let right : right_text t ≡ true = sym c.if-not-is-text.ensures in
+    let right : right_text t ≡ true = sym c.if-not-is_text.ensures in
     let small : length out < 2 ^ 64 = omega arith in
-    let all = done t (room c.args.labels.now) ls pr told right (not-false pr.ended c.if-not-progress.false) out c.put-executable.new.out c.put-executable.result c.as-slice.result.now c.as-slice-2.result.now
-    c.as-slice.ensures c.as-slice-2.ensures c.in-default.ensures c.if-progress-out.false small c.put-executable.ensures in
+    let all = done t (room c.args.labels.now) ls pr told right (not-false pr.ended c.if-not-progress.false) out c.put_executable.new.out c.put_executable.result c.as_slice.result.now c.as_slice-2.result.now
+    c.as_slice.ensures c.as_slice-2.ensures c.in_default.ensures c.if-progress-out.false small c.put_executable.ensures in
     record {
       value = all.0;
       labels = all.1;
       output = all.2;
-      past = first.past ∙ ap (drop c.first-pass.new.labels.len) cleared;
+      past = first.past ∙ ap (drop c.first_pass.new.labels.len) cleared;
       lender = first.lender ∙ c.clear.ensures.lender;
     }

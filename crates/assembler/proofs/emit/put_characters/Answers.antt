@@ -21,13 +21,13 @@ loop-value-preserved c =
       λ r o h.
           c.loop-value.invariant.0 r o
           (subst (λ l. Wrote c.loop-value.out c.loop-value.end l r o) (sym (constants_on (until_quote left) next x is some))
-          (wrote_then c.loop-value.out c.put-word-end.new.out o c.loop-value.end c.put-word-end.result r (four_bytes x) (flat_map four_bytes (string_constants next)) small c.put-word-end.ensures h)),
+          (wrote_then c.loop-value.out c.put_word-end.new.out o c.loop-value.end c.put_word-end.result r (four_bytes x) (flat_map four_bytes (string_constants next)) small c.put_word-end.ensures h)),
       more_left (until_quote left) next x is some,
     )
 
 pub returns : goal.returns
 returns c =
     let left = c.loop-value.left.now in
-    let is = is_closed left c.first-piece.result c.first-piece.ensures c.in-default.not-Character c.loop-value.invariant.1 in
-    c.loop-value.invariant.0 c.put-word.result c.put-word.new.out
-    (subst (λ u. Wrote c.loop-value.out c.loop-value.end (flat_map four_bytes (string_constants u)) c.put-word.result c.put-word.new.out) (sym is) c.put-word.ensures)
+    let is = is_closed left c.first_piece.result c.first_piece.ensures c.in_default.not-Character c.loop-value.invariant.1 in
+    c.loop-value.invariant.0 c.put_word.result c.put_word.new.out
+    (subst (λ u. Wrote c.loop-value.out c.loop-value.end (flat_map four_bytes (string_constants u)) c.put_word.result c.put_word.new.out) (sym is) c.put_word.ensures)

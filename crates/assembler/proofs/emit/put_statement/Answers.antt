@@ -2,8 +2,8 @@ use Rattle.std.proofs.Common.{rules}
 use Rattle.output.proofs.Writes.{wrote_none}
 use Rattle.assembler.proofs.emit.put_statement.Goals as goal
 
-pub returns-in-default : goal.returns-in-default
-returns-in-default c = search (rules, wrote_none)
+pub returns-in_default : goal.returns-in_default
+returns-in_default c = search (rules, wrote_none)
 
 pub returns-in-Stack : goal.returns-in-Stack
 returns-in-Stack c = search (rules, wrote_none)

@@ -7,8 +7,8 @@ use Rattle.assembler.specs.Emit.{four_bytes, string_constants}
 use Rattle.assembler.proofs.Emission.{past_quote, some_counted, none_counted}
 use Rattle.assembler.proofs.emit.put_string.Goals as goal
 
-pub put-characters-requires : goal.put-characters-requires
-put-characters-requires c =
+pub put_characters-requires : goal.put_characters-requires
+put_characters-requires c =
     let w = c.args.part.now in
     let counted = c.in-Some.ensures.value in
     sym (ap is_some (past_quote w c.in-Some.field-0 counted)) ∙ some_counted (characters w) c.in-Some.field-0 counted
@@ -16,7 +16,7 @@ put-characters-requires c =
 pub returns-in-Some : goal.returns-in-Some
 returns-in-Some c =
     let w = c.args.part.now in
-    subst (λ u. Wrote c.args.out.now c.args.at (flat_map four_bytes (string_constants u)) c.put-characters.result c.put-characters.new.out) (sym (past_quote w c.in-Some.field-0 c.in-Some.ensures.value)) c.put-characters.ensures
+    subst (λ u. Wrote c.args.out.now c.args.at (flat_map four_bytes (string_constants u)) c.put_characters.result c.put_characters.new.out) (sym (past_quote w c.in-Some.field-0 c.in-Some.ensures.value)) c.put_characters.ensures
 
 pub returns-in-None : goal.returns-in-None
 returns-in-None c =

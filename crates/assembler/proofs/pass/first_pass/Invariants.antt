@@ -11,7 +11,7 @@ invariant-loop-line l =
     × (l.lines.text.now ≡ l.text)
     × (room l.labels ≡ room l.initial.labels)
     × (drop l.labels.len l.labels.items.now ≡ drop l.labels.len l.initial.labels.items.now)
-    × (l.labels.items.name ≡ l.initial.labels.items.name)
+    × (l.labels.items.ghost_name ≡ l.initial.labels.items.ghost_name)
     × (l.progress.code + l.progress.pool ≤ 65536)
 
 abbrev pub decreases-loop-line : goal.decreases-loop-line

@@ -10,11 +10,11 @@ use Rattle.assembler.proofs.said.read_from.Goals as goal
 pub returns-in-Ok : goal.returns-in-Ok
 returns-in-Ok c =
     let ws = operands_in c.args.words.now in
-    said_ok (mnemonic_of c.in-Name.part.now) c.in-ok-mnemonic.mnemonic ws (meant c.in-Ok.statement) c.in-ok-mnemonic.ensures c.in-Ok.ensures
+    said_ok (mnemonic_of c.in-Name.part.now) c.in_ok-mnemonic.mnemonic ws (meant c.in-Ok.statement) c.in_ok-mnemonic.ensures c.in-Ok.ensures
     ∙ sym (ap (λ w. said_by (named (Some (shown w))) ws) c.in-Name.is)
 
 pub returns-in-Err : goal.returns-in-Err
 returns-in-Err c =
     let ws = operands_in c.args.words.now in
-    said_err (mnemonic_of c.in-Name.part.now) c.in-ok-mnemonic.mnemonic ws c.in-Err.field-0 c.in-ok-mnemonic.ensures c.in-Err.ensures
+    said_err (mnemonic_of c.in-Name.part.now) c.in_ok-mnemonic.mnemonic ws c.in-Err.field-0 c.in_ok-mnemonic.ensures c.in-Err.ensures
     ∙ sym (ap (λ w. said_by (named (Some (shown w))) ws) c.in-Name.is)

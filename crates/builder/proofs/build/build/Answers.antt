@@ -18,8 +18,8 @@ returns-in-Err c =
       lender = told.lender;
     }
 
-pub slice-bounds-check-end : goal.slice-bounds-check-end
-slice-bounds-check-end c = (stands c.args.text.now (room c.args.labels.now) c.args.out.now c.assemble.new.out c.in-Ok.length c.in-Ok.ensures.value c.assemble.ensures.output).0
+pub slice_bounds-check-end : goal.slice_bounds-check-end
+slice_bounds-check-end c = (stands c.args.text.now (room c.args.labels.now) c.args.out.now c.assemble.new.out c.in-Ok.length c.in-Ok.ensures.value c.assemble.ensures.output).0
 
 pub unreachable-requires : goal.unreachable-requires
 unreachable-requires c =

@@ -10,16 +10,16 @@ returns-then-bytes-lt512 c =
     record { value = sym (cond-false _ _ _ short); first = (short, none_before bs) }
 
 pub parts-requires : goal.parts-requires
-parts-requires c = code_inside c.args.bytes.now (sym c.if-not-has-right-length.ensures)
+parts-requires c = code_inside c.args.bytes.now (sym c.if-not-has_right_length.ensures)
 
 pub returns : goal.returns
 returns c =
     let bs = c.args.bytes.now in
     let q20 = le-leb 512 (length bs) c.if-bytes-lt512.false in
-    let q21 = sym c.if-not-is-marked.ensures in
-    let q22 = sym c.if-not-has-right-processor.ensures in
-    let q23 = sym c.if-not-has-zero-filler.ensures in
-    let q24 = sym c.if-not-has-right-sizes.ensures in
-    let q25 = sym c.if-not-has-right-length.ensures in
-    let q26 = sym c.if-not-has-right-addresses.ensures in
+    let q21 = sym c.if-not-is_marked.ensures in
+    let q22 = sym c.if-not-has_right_processor.ensures in
+    let q23 = sym c.if-not-has_zero_filler.ensures in
+    let q24 = sym c.if-not-has_right_sizes.ensures in
+    let q25 = sym c.if-not-has_right_length.ensures in
+    let q26 = sym c.if-not-has_right_addresses.ensures in
     record { value = ap Ok c.parts.ensures ∙ sym (accepted bs q20 q21 q22 q23 q24 q25 q26); first = each_yes bs q20 q21 q22 q23 q24 q25 q26 }

@@ -1,4 +1,4 @@
-use Rattle.std.proofs.Common.{◌≡◌, ℕ, ◌+◌, ◌-◌, List, length, take, drop, sym, refl, ap, ◌∙◌, arith}
+use Rattle.std.proofs.Common.{◌≡◌, ℕ, ◌+◌, ◌-◌, List, length, take, drop, ap, ◌∙◌, arith}
 use Rattle.std.proofs.lemmas.List.{take_rest}
 use Rattle.executable.specs.Check.{Parts, parts_in}
 use Rattle.executable.specs.Questions.{code_size, first_instruction, stack_pointer}
@@ -18,4 +18,4 @@ same bs n f s e g h =
     ∙ ap (λ k. made (take (code_size bs) (drop 512 bs)) (drop (512 + code_size bs) bs) (first_instruction bs) k) h
 
 pub returns : goal.returns
-returns c = same c.args.bytes.now c.number-at.result c.number-at-2.result c.number-at-3.result c.number-at.ensures c.number-at-2.ensures c.number-at-3.ensures
+returns c = same c.args.bytes.now c.number_at.result c.number_at-2.result c.number_at-3.result c.number_at.ensures c.number_at-2.ensures c.number_at-3.ensures

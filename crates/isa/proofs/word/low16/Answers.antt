@@ -1,4 +1,4 @@
-use Rattle.std.proofs.Common.{pos, ap, arith}
+use Rattle.std.proofs.Common.{arith}
 use Rattle.std.proofs.lemmas.Nat.{and_mask}
 use Rattle.std.proofs.lemmas.Int.{ints}
 use Rattle.isa.proofs.word.low16.Goals as goal

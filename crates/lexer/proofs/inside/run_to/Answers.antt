@@ -1,4 +1,4 @@
-use Rattle.std.proofs.Common.{ℕ, eqb, sym, ◌∙◌, arith, eq-eqb}
+use Rattle.std.proofs.Common.{eqb, arith, eq-eqb}
 use Rattle.std.proofs.lemmas.Bool.{ne_eqb}
 use Rattle.lexer.proofs.Over.{over_stops, over_goes, over_ends}
 use Rattle.lexer.proofs.inside.run_to.Goals as goal

@@ -7,5 +7,5 @@ use Rattle.listing.proofs.line.put_number_line.Goals as goal
 pub returns : goal.returns
 returns c =
     let small : length c.args.out.now < 2 ^ 64 = omega arith in
-    subst (λ x. Wrote c.args.out.now c.args.at x c.put-byte.result c.put-byte.new.out) (number_text c.args.name.now (decimal c.args.n))
-    (wrote_then _ _ _ _ _ _ _ _ small (wrote_then _ _ _ _ _ _ _ _ small (wrote_then _ _ _ _ _ _ _ _ small c.put-text-at.ensures c.put-byte-at.ensures) c.put-decimal-at.ensures) c.put-byte.ensures)
+    subst (λ x. Wrote c.args.out.now c.args.at x c.put_byte.result c.put_byte.new.out) (number_text c.args.name.now (decimal c.args.n))
+    (wrote_then _ _ _ _ _ _ _ _ small (wrote_then _ _ _ _ _ _ _ _ small (wrote_then _ _ _ _ _ _ _ _ small c.put_text-at.ensures c.put_byte-at.ensures) c.put_decimal-at.ensures) c.put_byte.ensures)

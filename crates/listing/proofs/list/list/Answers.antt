@@ -1,4 +1,4 @@
-use Rattle.std.proofs.Common.{◌≡◌, ℕ, ◌<◌, ◌≤◌, List, ◌++◌, length, Ok, sym, ap, ◌∙◌, arith}
+use Rattle.std.proofs.Common.{◌≤◌, length, Ok, sym, ap, ◌∙◌, arith}
 use Rattle.executable.specs.Check.{contents}
 use Rattle.listing.specs.Listing.{listing, length_of, output_after}
 use Rattle.listing.proofs.Answered.{measured, no_room, with_room, earlier, all_asked}
@@ -13,8 +13,8 @@ returns-then-length-out c =
     let p = contents c.in-Ok.executable in
     let is = c.in-Ok.ensures.value in
     let each = c.in-Ok.ensures.first in
-    let typed : Bytes bs = λ i. (c.type-inv.bytes i).fits in
-    let size = measured bs p is each typed c.put-listing-length.result c.put-listing-length.ensures.ends in
+    let typed : Bytes bs = λ i. (c.type_inv.bytes i).fits in
+    let size = measured bs p is each typed c.put_listing-length.result c.put_listing-length.ensures.ends in
     let shut = no_room bs p is each typed (length o) (omega (arith, size, c.if-length-out.true)) in
     record {
       value = sym (ap length_of shut.0);
@@ -29,12 +29,12 @@ returns c =
     let p = contents c.in-Ok.executable in
     let is = c.in-Ok.ensures.value in
     let each = c.in-Ok.ensures.first in
-    let typed : Bytes bs = λ i. (c.type-inv.bytes i).fits in
-    let size = measured bs p is each typed c.put-listing-length.result c.put-listing-length.ensures.ends in
+    let typed : Bytes bs = λ i. (c.type_inv.bytes i).fits in
+    let size = measured bs p is each typed c.put_listing-length.result c.put_listing-length.ensures.ends in
     let fits : length (listing p) ≤ length o = omega (arith, size, c.if-length-out.false) in
     let wide = with_room bs p is each typed (length o) fits in
     record {
-      value = ap Ok (measured bs p is each typed c.put-listing.result c.put-listing.ensures.ends) ∙ sym (ap length_of wide.0);
-      output = c.put-listing.ensures.laid ∙ overlay_whole o (listing p) fits ∙ sym (ap (λ r. output_after r o) wide.0);
+      value = ap Ok (measured bs p is each typed c.put_listing.result c.put_listing.ensures.ends) ∙ sym (ap length_of wide.0);
+      output = c.put_listing.ensures.laid ∙ overlay_whole o (listing p) fits ∙ sym (ap (λ r. output_after r o) wide.0);
       first = all_asked bs p is each typed (length o) wide.1;
     }

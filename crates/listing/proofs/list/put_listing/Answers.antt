@@ -18,5 +18,5 @@ returns c =
     let k = flat_map line_text (map (word_line Constants) (words_of e.constants.now)) in
     let d = line_text (number_line (codes "end") e.first) in
     let small : length c.args.out.now < 2 ^ 64 = omega arith in
-    subst (λ x. Wrote c.args.out.now 0 x c.put-number-line.result c.put-number-line.new.out) (four_parts a b k d ∙ sym (listing_parts (contents e)))
-    (wrote_then _ _ _ _ _ _ _ _ small (wrote_then _ _ _ _ _ _ _ _ small (wrote_then _ _ _ _ _ _ _ _ small c.put-number-line-at.ensures c.put-segment-at.ensures) c.put-segment-at-2.ensures) c.put-number-line.ensures)
+    subst (λ x. Wrote c.args.out.now 0 x c.put_number_line.result c.put_number_line.new.out) (four_parts a b k d ∙ sym (listing_parts (contents e)))
+    (wrote_then _ _ _ _ _ _ _ _ small (wrote_then _ _ _ _ _ _ _ _ small (wrote_then _ _ _ _ _ _ _ _ small c.put_number_line-at.ensures c.put_segment-at.ensures) c.put_segment-at-2.ensures) c.put_number_line.ensures)

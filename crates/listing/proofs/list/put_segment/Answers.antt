@@ -1,4 +1,4 @@
-use Rattle.std.proofs.Common.{◌≡◌, ℕ, ◌^◌, ◌<◌, List, map, length, take, sym, ap, subst, arith}
+use Rattle.std.proofs.Common.{◌^◌, ◌<◌, map, length, take, subst, arith}
 use Rattle.std.specs.List.{flat_map}
 use Rattle.std.proofs.lemmas.List.{take_all}
 use Rattle.executable.specs.Bytes.{words_of}
@@ -11,8 +11,8 @@ use Rattle.listing.proofs.list.put_segment.Goals as goal
 pub loop-word-init : goal.loop-word-init
 loop-word-init c = (omega arith, wrote_none c.args.out.now c.args.at (omega arith))
 
-pub overflow-add-index : goal.overflow-add-index
-overflow-add-index c =
+pub overflow_add-index : goal.overflow_add-index
+overflow_add-index c =
     let ws = words_of c.args.bytes.now in
     let h = (nth_some ws c.loop-word.index c.in-Some.word c.in-Some.ensures).0 in
     let few = words_length c.args.bytes.now in
@@ -28,12 +28,12 @@ loop-word-preserved c =
     let at = nth_some ws i c.in-Some.word c.in-Some.ensures in
     let small : length c.args.out.now < 2 ^ 64 = omega arith in (
       omega (arith, at.0),
-      subst (λ x. Wrote c.args.out.now c.args.at x c.put-word-end.result c.put-word-end.new.out) (segment_more c.args.segment ws i c.in-Some.word at.0 at.1)
-          (wrote_then c.args.out.now c.loop-word.out c.put-word-end.new.out c.args.at c.loop-word.end c.put-word-end.result (flat_map line_text (map (word_line c.args.segment) (take i ws))) (line_text (word_line c.args.segment c.in-Some.word)) small c.loop-word.invariant.1 c.put-word-end.ensures),
+      subst (λ x. Wrote c.args.out.now c.args.at x c.put_word-end.result c.put_word-end.new.out) (segment_more c.args.segment ws i c.in-Some.word at.0 at.1)
+          (wrote_then c.args.out.now c.loop-word.out c.put_word-end.new.out c.args.at c.loop-word.end c.put_word-end.result (flat_map line_text (map (word_line c.args.segment) (take i ws))) (line_text (word_line c.args.segment c.in-Some.word)) small c.loop-word.invariant.1 c.put_word-end.ensures),
     )
 
 pub returns : goal.returns
 returns c =
     let ws = words_of c.args.bytes.now in
     let i = c.loop-word.index in
-    subst (λ l. Wrote c.args.out.now c.args.at (flat_map line_text (map (word_line c.args.segment) l)) c.loop-word.end c.loop-word.out) (take_all i ws (nth_none ws i c.in-default.ensures)) c.loop-word.invariant.1
+    subst (λ l. Wrote c.args.out.now c.args.at (flat_map line_text (map (word_line c.args.segment) l)) c.loop-word.end c.loop-word.out) (take_all i ws (nth_none ws i c.in_default.ensures)) c.loop-word.invariant.1

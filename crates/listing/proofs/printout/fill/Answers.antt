@@ -1,4 +1,4 @@
-use Rattle.std.proofs.Common.{◌≡◌, length, sym, ap, ◌∙◌, arith}
+use Rattle.std.proofs.Common.{sym, ap, ◌∙◌, arith}
 use Rattle.listing.specs.Numbers.{number_of}
 use Rattle.listing.specs.Printout.{text_of, refused_text, is_refused}
 use Rattle.listing.proofs.Prints.{long_input, listed_page, refused_page}
@@ -22,7 +22,7 @@ returns-in-Ok c =
 
 pub returns-in-Err : goal.returns-in-Err
 returns-in-Err c =
-    let typed : Bytes c.args.input.now = λ i. (c.type-inv.input i).fits in
+    let typed : Bytes c.args.input.now = λ i. (c.type_inv.input i).fits in
     let e = c.in-Err.ensures in
     let own = refused_page c.args.input.now c.args.page.now c.in-Err.refusal typed c.if-input-gt8192.false c.requires e.value e.first in
     record {

@@ -1,5 +1,4 @@
-use Rattle.std.proofs.Common.{◌≡◌, ℕ, List, [], ◌∷◌, decimal, sym, ap, subst, arith}
-use Rattle.std.specs.Fmt.{signed_decimal}
+use Rattle.std.proofs.Common.{[], ◌∷◌, decimal, sym, subst, arith}
 use Rattle.output.specs.Overlay.{Wrote}
 use Rattle.output.proofs.Writes.{wrote_then}
 use Rattle.listing.proofs.Signs.{signed_up, signed_down}
@@ -7,11 +6,11 @@ use Rattle.listing.proofs.put.put_signed.Goals as goal
 
 pub returns-then-z-ge0 : goal.returns-then-z-ge0
 returns-then-z-ge0 c =
-    let e = signed_up c.args.z c.unsigned-abs-size.result c.ranges.z c.unsigned-abs-size.ensures.value c.if-z-ge0.true in
-    subst (λ x. Wrote c.args.out.now c.args.at x c.put-decimal.result c.put-decimal.new.out) (sym e) c.put-decimal.ensures
+    let e = signed_up c.args.z c.unsigned_abs-size.result c.ranges.z c.unsigned_abs-size.ensures.value c.if-z-ge0.true in
+    subst (λ x. Wrote c.args.out.now c.args.at x c.put_decimal.result c.put_decimal.new.out) (sym e) c.put_decimal.ensures
 
 pub returns : goal.returns
 returns c =
-    let e = signed_down c.args.z c.unsigned-abs-size.result c.ranges.z c.unsigned-abs-size.ensures.value c.if-z-ge0.false in
-    subst (λ x. Wrote c.args.out.now c.args.at x c.put-decimal-2.result c.put-decimal-2.new.out) (sym e)
-    (wrote_then c.args.out.now c.put-byte-at.new.out c.put-decimal-2.new.out c.args.at c.put-byte-at.result c.put-decimal-2.result (45 ∷ []) (decimal c.unsigned-abs-size.result) (omega arith) c.put-byte-at.ensures c.put-decimal-2.ensures)
+    let e = signed_down c.args.z c.unsigned_abs-size.result c.ranges.z c.unsigned_abs-size.ensures.value c.if-z-ge0.false in
+    subst (λ x. Wrote c.args.out.now c.args.at x c.put_decimal-2.result c.put_decimal-2.new.out) (sym e)
+    (wrote_then c.args.out.now c.put_byte-at.new.out c.put_decimal-2.new.out c.args.at c.put_byte-at.result c.put_decimal-2.result (45 ∷ []) (decimal c.unsigned_abs-size.result) (omega arith) c.put_byte-at.ensures c.put_decimal-2.ensures)

@@ -6,4 +6,4 @@ use Rattle.numerals.proofs.integer.read_integer.Goals as goal
 
 pub returns-in-45 : goal.returns-in-45
 returns-in-45 c =
-    c.negated.ensures ∙ ap (option_map negative) c.read-natural.ensures ∙ negative_capped _ ∙ sym (ap (option_map capped_integer) (after_the_minus c.args.word.now (search rules) (search rules)))
+    c.negated.ensures ∙ ap (option_map negative) c.read_natural.ensures ∙ negative_capped _ ∙ sym (ap (option_map capped_integer) (after_the_minus c.args.word.now (search rules) (search rules)))

@@ -1,8 +1,8 @@
-use Rattle.std.proofs.Common.{◌≡◌, length, Ok, sym, ap, ◌∙◌}
+use Rattle.std.proofs.Common.{length, Ok, sym, ap, ◌∙◌}
 use Rattle.executable.specs.Check.{parts_in}
 use Rattle.std.specs.Str.{bytes_eq}
 use Rattle.std.proofs.lemmas.Slice.Eq.{slice_eq-Decides}
-use Rattle.listing.specs.Listing.{listing, listed, output_after}
+use Rattle.listing.specs.Listing.{listing, listed}
 use Rattle.roundtrip.specs.Compared.{of_both, second_after}
 use Rattle.roundtrip.proofs.Answered.{on_page, listed_whole, not_listed, compared_same}
 use Rattle.roundtrip.proofs.compare.have_equal_listings.Goals as goal
@@ -35,7 +35,7 @@ returns-in-Ok-list c =
     let two = c.in-Ok-list.ensures in
     let left = listed_whole c.args.left.now (length c.args.text.now) one.first in
     record {
-      value = compared_same c.args.left.now c.args.right.now (length c.args.text.now) (length c.args.other.now) (λ i. (c.type-inv.left i).fits) (λ i. (c.type-inv.right i).fits) one.first two.first
+      value = compared_same c.args.left.now c.args.right.now (length c.args.text.now) (length c.args.other.now) (λ i. (c.type_inv.left i).fits) (λ i. (c.type_inv.right i).fits) one.first two.first
           c.eq.result c.front.result.now c.front-in-Ok-list.result.now
           (c.front.ensures ∙ on_page c.args.left.now (length c.args.text.now) one.first c.args.text.now c.list.new.out c.in-Ok.length one.value one.output)
           (c.front-in-Ok-list.ensures ∙ on_page c.args.right.now (length c.args.other.now) two.first c.args.other.now c.list-2.new.out c.in-Ok-list.count two.value two.output)

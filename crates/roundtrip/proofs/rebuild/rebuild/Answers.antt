@@ -1,4 +1,4 @@
-use Rattle.std.proofs.Common.{◌≡◌, ◌<◌, length, sym, ap, ◌∙◌}
+use Rattle.std.proofs.Common.{length, sym, ap, ◌∙◌}
 use Rattle.listing.specs.Listing.{listed}
 use Rattle.roundtrip.specs.Laws.{Bytes}
 use Rattle.roundtrip.specs.Rebuilt.{rebuilt_from, length_of, written_to}
@@ -28,20 +28,20 @@ pub returns-in-Some : goal.returns-in-Some
 returns-in-Some c =
     let bs = c.args.bytes.now in
     let text_room = length c.args.text.now in
-    let bytes : Bytes bs = λ i. (c.type-inv.bytes i).fits in
+    let bytes : Bytes bs = λ i. (c.type_inv.bytes i).fits in
     let listed = c.in-Ok.ensures in
     let page = c.front.ensures ∙ on_page bs text_room listed.first c.args.text.now c.list.new.out c.in-Ok.length listed.value listed.output in
     record {
       value = rebuilt_length bs text_room bytes listed.first c.args.out.now c.front.result.now page c.if-bytes-out.false c.in-Some.length c.in-Some.ensures.value;
       text = c.list.ensures.output;
-      output = rebuilt_output bs text_room bytes listed.first c.args.out.now c.front.result.now page c.if-bytes-out.false c.assemble-listing.new.out c.assemble-listing.ensures.output;
+      output = rebuilt_output bs text_room bytes listed.first c.args.out.now c.front.result.now page c.if-bytes-out.false c.assemble_listing.new.out c.assemble_listing.ensures.output;
     }
 
 pub returns-in-None : goal.returns-in-None
 returns-in-None c =
     let bs = c.args.bytes.now in
     let text_room = length c.args.text.now in
-    let bytes : Bytes bs = λ i. (c.type-inv.bytes i).fits in
+    let bytes : Bytes bs = λ i. (c.type_inv.bytes i).fits in
     let listed = c.in-Ok.ensures in
     let page = c.front.ensures ∙ on_page bs text_room listed.first c.args.text.now c.list.new.out c.in-Ok.length listed.value listed.output in
     absurd (never_none bs text_room bytes listed.first c.args.out.now c.front.result.now page c.if-bytes-out.false c.in-None.ensures.value)

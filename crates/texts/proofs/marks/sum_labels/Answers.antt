@@ -8,7 +8,7 @@ pub loop-label-preserved : goal.loop-label-preserved
 loop-label-preserved c =
     let ls = c.args.labels.now in
     let i = c.loop-label.label-index in
-    c.add-label-sum.ensures ∙ ap (λ x. added_label x (get_or ls i (record { place = record { offset = 0 }; length = 0; address = 0 }))) c.loop-label.invariant ∙ sym (fold_more added_label 0 ls i (record { place = record { offset = 0 }; length = 0; address = 0 }) c.loop-label-test.true)
+    c.add_label-sum.ensures ∙ ap (λ x. added_label x (get_or ls i (record { place = record { offset = 0 }; length = 0; address = 0 }))) c.loop-label.invariant ∙ sym (fold_more added_label 0 ls i (record { place = record { offset = 0 }; length = 0; address = 0 }) c.loop-label-test.true)
 
 pub returns : goal.returns
 returns c = c.loop-label.invariant ∙ ap label_sum_of (take_all c.loop-label.label-index c.args.labels.now c.loop-label-test.false)

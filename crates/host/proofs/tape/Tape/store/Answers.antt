@@ -5,13 +5,13 @@ use Rattle.host.specs.Tapes.{spoiled}
 use Rattle.host.proofs.TapeWrites.{sets_more}
 use Rattle.host.proofs.tape.Tape.store.Goals as goal
 
-pub invariant-of-self : goal.invariant-of-self
-invariant-of-self c =
+pub invariant_of-self : goal.invariant_of-self
+invariant_of-self c =
     let s = c.loop-k.self in
     let b = get_or c.args.bytes.now c.loop-k.k 0 in
     let same = length-set s.output.now (s.at + c.loop-k.k) b in
     let room = s.room in
-    (omega arith, (ap spoiled (take-set-le s.at s.output.now (s.at + c.loop-k.k) b (omega arith)) ∙ s.clean, tt))
+    record { room = omega arith; clean = ap spoiled (take-set-le s.at s.output.now (s.at + c.loop-k.k) b (omega arith)) ∙ s.clean }
 
 pub loop-k-preserved : goal.loop-k-preserved
 loop-k-preserved c =

@@ -1,4 +1,4 @@
-use Rattle.std.proofs.Common.{◌≡◌, ℕ, ◌+◌, ◌*◌, ◌^◌, ◌<◌, refl, ap, ◌∙◌, arith, lit<, w16, SFits, rules}
+use Rattle.std.proofs.Common.{◌≡◌, ◌+◌, ◌*◌, ◌^◌, ◌<◌, refl, ap, ◌∙◌, arith, lit<, w16, SFits, rules}
 use Rattle.isa.specs.declared.form.Form.TheVariants as form
 use Rattle.isa.specs.Fields.{bits}
 use Rattle.isa.specs.Operands.{rr, ri, rm, j, numbers_in, form_in}
@@ -17,7 +17,7 @@ returns-in-Rr c =
     let l = b.number * 2 ^ 16 + bits 16 m in
     let mfits : SFits w16 m = search rules in
     let mbits : bits 16 m < 2 ^ 16 = bits_below 16 m refl mfits.sfits in
-    let low : c.source-and-modifier.result ≡ l = c.source-and-modifier.ensures ∙ ap (λ z. b.number * 2 ^ 16 + bits 16 z) (to_z-of_z w16 m mfits) in
+    let low : c.source_and_modifier.result ≡ l = c.source_and_modifier.ensures ∙ ap (λ z. b.number * 2 ^ 16 + bits 16 z) (to_z-of_z w16 m mfits) in
     let e : w ≡ code_of s.opcode * 2 ^ 24 + (a.number * 2 ^ 20 + l) = omega (arith, c.joined.ensures, c.code-code.ensures, low) in
     let small : l < 2 ^ 20 = omega (arith, b.few, mbits) in
     let all : a.number * 2 ^ 20 + l < 2 ^ 24 = omega (arith, a.few, small) in
@@ -33,7 +33,7 @@ returns-in-Ri c =
     let w = c.joined-in-Ri.result in
     let l = bits 20 i.value in
     let small : l < 2 ^ 20 = bits_below 20 i.value refl i.fits in
-    let e : w ≡ code_of s.opcode * 2 ^ 24 + (a.number * 2 ^ 20 + l) = omega (arith, c.joined-in-Ri.ensures, c.code-code.ensures, c.immediate-bits.ensures) in
+    let e : w ≡ code_of s.opcode * 2 ^ 24 + (a.number * 2 ^ 20 + l) = omega (arith, c.joined-in-Ri.ensures, c.code-code.ensures, c.immediate_bits.ensures) in
     let all : a.number * 2 ^ 20 + l < 2 ^ 24 = omega (arith, a.few, small) in
     let both = word_of s.opcode s.operands form.Ri (ri a.number i.value) w (a.number * 2 ^ 20 + l) s.fits (ap form_in c.in-Ri.is) (ap numbers_in c.in-Ri.is) e refl all (in_ri (code_of s.opcode) a.number l w e a.few small i.value i.fits refl) in
     record { value = both.0; back = both.1 }

@@ -1,6 +1,6 @@
-use Rattle.std.proofs.Common.{◌≡◌, ℕ, List, get_or, Some, None, Decides, sym, refl, ◌∙◌, subst}
+use Rattle.std.proofs.Common.{◌≡◌, get_or, Some, None, Decides, sym, refl, ◌∙◌, subst}
 use Rattle.std.proofs.lemmas.Slice.Eq.{slice_eq-Decides}
-use Rattle.isa.specs.Table.{name_of, opcodes, opcode_named}
+use Rattle.isa.specs.Table.{opcodes, opcode_named}
 use Rattle.isa.specs.declared.opcode.Opcode.TheVariants.{Halt}
 use Rattle.isa.proofs.Rows.{find_here, find_on, find_none, found, finds_named}
 use Rattle.isa.proofs.opcode.Opcode.from_name.Goals as goal
