@@ -19,7 +19,7 @@ fn files(rt: HostRuntime) -> Result<(), Fail> {
     run(&rt, &mut output, "good.karma", "kept.karmaexec")?;
     let report =
         b"words of code: 2\nwords of constants: 0\nfirst instruction: 0\nstack pointer: 1048575\nlabel a: 0\n";
-    assert!(rt; output.as_slice() == report);
+    assert!(rt; output.as_slice() == report.as_slice());
     let made = fs::read(&rt, "kept.karmaexec")?;
     assert_eq!(rt; made.len(), 520);
     assert_eq!(rt; word(made.as_slice(), 512), 0x271F_FFFF);
@@ -30,7 +30,7 @@ fn files(rt: HostRuntime) -> Result<(), Fail> {
     fs::write(&rt, "bad.karma", "halt r0 0\n\njmp r1\nend 0\n")?;
     assert!(rt; run(&rt, &mut output, "bad.karma", "kept.karmaexec").is_err());
     let refusal = b"refused 8 line 3: an operand is not well formed\n";
-    assert!(rt; output.as_slice() == refusal);
+    assert!(rt; output.as_slice() == refusal.as_slice());
     let kept = fs::read(&rt, "kept.karmaexec")?;
     assert!(rt; kept.as_slice() == made.as_slice());
 

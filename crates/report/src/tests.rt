@@ -32,7 +32,7 @@ fn no_labels(rt: HostRuntime) -> Result<(), Fail> {
     let lines = success_lines(rt.alloc(), b"", &[], executable)?;
     let expected =
         b"words of code: 2\nwords of constants: 1\nfirst instruction: 1\nstack pointer: 99\n";
-    assert!(rt; lines.as_slice() == expected);
+    assert!(rt; lines.as_slice() == expected.as_slice());
     Ok(())
 }
 
@@ -52,6 +52,6 @@ fn one_label(rt: HostRuntime) -> Result<(), Fail> {
     let lines = success_lines(rt.alloc(), b" go: halt r0 0\n", &labels, executable)?;
     let expected =
         b"words of code: 0\nwords of constants: 0\nfirst instruction: 0\nstack pointer: 0\nlabel go: 7\n";
-    assert!(rt; lines.as_slice() == expected);
+    assert!(rt; lines.as_slice() == expected.as_slice());
     Ok(())
 }
