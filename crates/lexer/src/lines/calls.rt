@@ -4,6 +4,7 @@ ghost use Rattle.std.specs.Prelude.{◌≡◌, ◌+◌, ◌≤◌, length, is_so
 ghost use Rattle.std.specs.Option.{option_map};
 ghost use Rattle.std.specs.List.{between};
 ghost use Rattle.lexer.specs.Cursor.{lines_in};
+ghost use Rattle.lexer.specs.Divided.{Lined};
 ghost use Rattle.lexer.specs.Text.{lines_of, first_line, next_at, tail_of};
 
 use crate::inside::run_to;
@@ -12,7 +13,8 @@ use crate::lines::{Line, Lines};
 impl<'a> Lines<'a> {
     /// The lines of a text.
     pub fn new(text: &'a [u8]) -> Lines<'a>
-        ensures { (result.at ≡ 0) × (result.line ≡ 0) × (result.text.now ≡ text.now) × (lines_in result ≡ lines_of text.now) }
+        ensures begins { (result.at ≡ 0) × (result.line ≡ 0) × (result.text.now ≡ text.now) × (lines_in result ≡ lines_of text.now) }
+        ensures lined { Lined text.now (lines_in result) }
     {
         Lines {
             text,

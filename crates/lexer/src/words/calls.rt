@@ -1,11 +1,12 @@
 //! Going through the words of a line.
 
-ghost use Rattle.std.specs.Prelude.{◌≡◌, ◌+◌, min, true, false, length};
+ghost use Rattle.std.specs.Prelude.{◌≡◌, ◌+◌, min, true, false, length, take, drop, IfSome};
 ghost use Rattle.std.specs.Option.{option_map};
 ghost use Rattle.std.specs.List.{between};
 ghost use Rattle.lexer.specs.Cursor.{part, words_in, past_word, Begins};
+ghost use Rattle.lexer.specs.Divided.{Divided};
 ghost use Rattle.lexer.specs.Text.{spelled, tail_of, blanks};
-ghost use Rattle.lexer.specs.Shown.{shown, tell, first_told, first_shown};
+ghost use Rattle.lexer.specs.Shown.{shown, bytes_of, tell, first_told, first_shown};
 
 use crate::inside::{Inside, count_blanks, word_len};
 use crate::lines::Line;
@@ -32,7 +33,8 @@ fn count_words(line: &[u8]) -> usize
 impl<'a> Words<'a> {
     /// The words of a line of a text. What a line has past the text is left out.
     pub fn new(text: &'a [u8], line: Line) -> Words<'a>
-        ensures { Begins text.now line result }
+        ensures begins { Begins text.now line result }
+        ensures divided { Divided (part result) (words_in result) }
     {
         let end = line.end.min(text.len());
         let at = line.start.min(end);
@@ -62,6 +64,7 @@ impl<'a> Words<'a> {
         ensures line { self.new.line ≡ self.old.line }
         ensures fresh { self.new.fresh ≡ false }
         ensures text { self.new.text.now ≡ self.old.text.now }
+        ensures stands { IfSome result (λ t. take (length (bytes_of (shown t.word))) (drop t.place self.old.text.now) ≡ bytes_of (shown t.word)) }
     {
         let fresh = self.fresh;
         self.fresh = false;
