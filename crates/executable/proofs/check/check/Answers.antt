@@ -1,5 +1,6 @@
-use Rattle.std.proofs.Common.{length, Ok, sym, ap, ◌∙◌}
+use Rattle.std.proofs.Common.{◌≡◌, true, length, Ok, sym, ap, ◌∙◌}
 use Rattle.std.proofs.lemmas.Bool.{cond-false, le-leb}
+use Rattle.executable.specs.Questions.{marked, right_processor, zero_filler, right_sizes, right_length, right_addresses}
 use Rattle.executable.proofs.Accepted.{code_inside, accepted, each_yes, none_before, too_short}
 use Rattle.executable.proofs.check.check.Goals as goal
 
@@ -16,10 +17,10 @@ pub returns : goal.returns
 returns c =
     let bs = c.args.bytes.now in
     let q20 = le-leb 512 (length bs) c.if-bytes-lt512.false in
-    let q21 = sym c.if-not-is_marked.ensures in
-    let q22 = sym c.if-not-has_right_processor.ensures in
-    let q23 = sym c.if-not-has_zero_filler.ensures in
-    let q24 = sym c.if-not-has_right_sizes.ensures in
-    let q25 = sym c.if-not-has_right_length.ensures in
-    let q26 = sym c.if-not-has_right_addresses.ensures in
+    let q21 : marked bs ≡ true = cc in
+    let q22 : right_processor bs ≡ true = cc in
+    let q23 : zero_filler bs ≡ true = cc in
+    let q24 : right_sizes bs ≡ true = cc in
+    let q25 : right_length bs ≡ true = cc in
+    let q26 : right_addresses bs ≡ true = cc in
     record { value = ap Ok c.parts.ensures ∙ sym (accepted bs q20 q21 q22 q23 q24 q25 q26); first = each_yes bs q20 q21 q22 q23 q24 q25 q26 }
