@@ -21,7 +21,8 @@ them: an edit that is then PROVED was refused only because a proof file did not 
 --dry   only sees that every old text stands once in its file
 --run   does not check: runs the test program of the crate without proof (rt try), and says whether it prints what it
         must. Where it does not, the planted body answers otherwise than the proved one on some case, so that no proof
-        of the same contract exists for it.
+        of the same contract exists for it. A program that rt try does not bring to its end without the bug, as `texts`,
+        which takes more steps than it has, cannot tell.
 """
 import os
 import re
@@ -31,7 +32,7 @@ import sys
 PROGRAMS = {
     "isa": ["vectors", "texts"],
     "executable": ["vectors"],
-    "listing": ["vectors"],
+    "listing": ["vectors", "lister"],
     "output": ["vectors"],
     "lexer": ["texts"],
     "numerals": ["texts"],
@@ -79,6 +80,7 @@ def without(answers, crate):
     """What the search alone says of the function whose hand-written answers do not fit."""
     if os.path.basename(answers) != "Answers.antt":
         return "a lemma does not fit"
+    answers = os.path.join("crates", crate, answers)  # rt names files from the crate's folder
     text = open(answers, encoding="utf-8").read()
     os.remove(answers)
     try:
@@ -105,14 +107,22 @@ def check(bug):
     return ["refused", first[0], first[1][:200]]
 
 
-def run(bug):
+def prints_the_same(program):
+    """Whether a program, run without proof on what the gate gives it, prints what it must."""
+    folder = os.path.join("crates", program)
+    with open(os.path.join(folder, "stdin"), "rb") as given, open(os.path.join(folder, "stdout"), "rb") as wanted:
+        done = subprocess.run(["rt", "try"], cwd=folder, stdin=given, capture_output=True)
+        return done.returncode == 0 and done.stdout == wanted.read()
+
+
+def run(bug, sound):
+    """What the programs print with the bug. One that does not print what it must without it tells nothing."""
     answers = []
     for program in PROGRAMS.get(bug["crate"], []):
-        folder = os.path.join("crates", program)
-        with open(os.path.join(folder, "stdin"), "rb") as given, open(os.path.join(folder, "stdout"), "rb") as wanted:
-            done = subprocess.run(["rt", "try"], cwd=folder, stdin=given, capture_output=True)
-            same = done.returncode == 0 and wanted.read() in done.stdout
-        answers.append("%s %s" % (program, "prints the same" if same else "prints something else"))
+        if program not in sound:
+            answers.append("%s cannot tell: rt try does not bring it to its end without the bug" % program)
+        else:
+            answers.append("%s %s" % (program, "prints the same" if prints_the_same(program) else "prints something else"))
     return answers or ["no program"]
 
 
@@ -138,7 +148,8 @@ def main():
     if "--dry" in sys.argv:
         work = lambda bug: ["ok"]
     elif "--run" in sys.argv:
-        work = run
+        sound = {program for program in sorted(set(sum(PROGRAMS.values(), []))) if prints_the_same(program)}
+        work = lambda bug: run(bug, sound)
     for lines in blocks(table):
         bug, edits = parse(lines)
         if words and not any(word in bug["bug"] for word in words):
