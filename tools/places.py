@@ -46,7 +46,7 @@ def parameters(text):
 
 def sources(folder):
     for top, folders, files in os.walk(os.path.join(folder, "crates")):
-        folders.sort()
+        folders[:] = sorted(name for name in folders if name != "out")
         if "/src" not in top:
             continue
         for name in sorted(files):

@@ -1,6 +1,6 @@
 //! The program, over any output for its report.
 
-use anyhow::anyhow;
+use anyhow::{Context, anyhow};
 use assembler::assemble::assemble;
 use assembler::label::{Label, Place};
 use bounded::list::BoundedList;
@@ -26,10 +26,9 @@ fn finish<W: Write>(
     text: &[u8],
     labels: &[Label],
 ) -> anyhow::Result<()> {
-    let executable = match check(bytes) {
-        Ok(executable) => executable,
-        Err(_) => return Err(anyhow!("the assembled bytes are no executable")),
-    };
+    let executable = check(bytes)
+        .ok()
+        .context("the assembled bytes are no executable")?;
     let lines = success_lines(rt.alloc(), text, labels, executable)?;
     fs::write(rt, name, bytes)?;
     output.write_all(lines.as_slice())?;
@@ -52,10 +51,13 @@ fn assemble_text<W: Write>(
     let mut labels = BoundedList::new(entries.as_mut_slice());
     let mut out = vec![in rt.alloc(); 0u8; LONGEST]?;
     match assemble(text, &mut labels, out.as_mut_slice()) {
-        Ok(length) => match out.as_slice().get(0..length) {
-            Some(bytes) => finish(rt, output, name, bytes, text, labels.as_slice()),
-            None => Err(anyhow!("the executable does not fit")),
-        },
+        Ok(length) => {
+            let bytes = out
+                .as_slice()
+                .get(..length)
+                .context("the executable does not fit")?;
+            finish(rt, output, name, bytes, text, labels.as_slice())
+        }
         Err(refusal) => {
             let line = refusal_line(rt.alloc(), refusal)?;
             output.write_all(line.as_bytes())?;

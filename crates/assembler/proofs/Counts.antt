@@ -6,7 +6,7 @@ use Rattle.lexer.specs.Text.{lines_of, words_of, before, blanks}
 use Rattle.output.specs.Overlay.{Wrote}
 use Rattle.output.proofs.Writes.{overlay_whole}
 use Rattle.assembler.specs.declared.label.Label.{Label}
-use Rattle.assembler.specs.declared.progress.Progress.{Progress}
+use Rattle.assembler.specs.Progress.{Progress}
 use Rattle.assembler.specs.declared.question.Question.{Question}
 use Rattle.assembler.specs.Statements as said
 use Rattle.assembler.specs.Statements.{Meant}

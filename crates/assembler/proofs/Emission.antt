@@ -1,24 +1,16 @@
 -- The turns of the second pass.
-use Rattle.std.proofs.Common.{◌≡◌, ℕ, ◌-◌, ◌^◌, ◌<◌, Bool, true, false, cond, ◌&&◌, eqb, List, [], ◌∷◌, ◌++◌, length, take, drop, is_some, Some, None, Ok, Err, Option, unwrap_or, sym, refl, ap, ◌∙◌, subst, arith}
+use Rattle.std.proofs.Common.{◌≡◌, ℕ, ◌-◌, Bool, true, false, cond, ◌&&◌, eqb, List, [], ◌∷◌, ◌++◌, length, take, drop, is_some, Some, None, Ok, Err, Option, sym, refl, ap, ◌∙◌, arith}
 use Rattle.std.specs.List.{flat_map}
 use Rattle.std.specs.Option.{option_map}
 use Rattle.std.proofs.lemmas.List.{append_assoc, take_rest}
 use Rattle.std.proofs.lemmas.Bool.{cond_both, false≢true}
 use Rattle.executable.specs.Check.{ask}
 use Rattle.lexer.specs.Shown.{Shown}
-use Rattle.lexer.specs.Text.{tail_of}
-use Rattle.output.specs.Overlay.{Wrote}
-use Rattle.output.proofs.Writes.{wrote_then}
 use Rattle.assembler.specs.Characters.{in_front, until_quote, characters}
-use Rattle.assembler.specs.Emit.{line_says, string_constants, put_by, words_from, four_bytes}
+use Rattle.assembler.specs.Emit.{string_constants, four_bytes}
 use Rattle.assembler.specs.Lines.{said_by}
 use Rattle.assembler.specs.Operands.{right_count, right_form, right_range}
-use Rattle.assembler.specs.Pieces.{Says}
-use Rattle.assembler.specs.Said.{first_said}
 use Rattle.assembler.specs.Statements.{Meant, statement_by, read_by, justly}
-use Rattle.assembler.specs.declared.characters.Piece.{Piece}
-use Rattle.assembler.specs.declared.characters.Piece.TheVariants.{Closed, Character, Bad}
-use Rattle.assembler.specs.declared.label.Label.{Label}
 use Rattle.assembler.specs.declared.mnemonic.Mnemonic.{Mnemonic}
 use Rattle.assembler.specs.declared.question.Question.{Question}
 use Rattle.assembler.specs.declared.question.Question.TheVariants as question
@@ -38,30 +30,9 @@ none_said false b c x q e = refl
 pub said_err : (mn : Option Mnemonic) (m : Mnemonic) (ws : List Shown) (q : Question) → Some m ≡ mn → Err q ≡ read_by m ws → None ≡ said_by mn ws
 said_err mn m ws q is e = none_said (right_count m ws) (right_form m ws) (right_range m ws) (statement_by m ws) q e ∙ ap (λ n. said_by n ws) is
 
-joined_append : {X A : Type 0} (f : X → List A) (xs ys : List X) → flat_map f (xs ++ ys) ≡ flat_map f xs ++ flat_map f ys
+pub joined_append : {X A : Type 0} (f : X → List A) (xs ys : List X) → flat_map f (xs ++ ys) ≡ flat_map f xs ++ flat_map f ys
 joined_append f [] ys = refl
 joined_append f (x ∷ xs) ys = ap (λ l. f x ++ l) (joined_append f xs ys) ∙ sym (append_assoc (f x) (flat_map f xs) (flat_map f ys))
-
-no_pair : (x : ℕ × Option Meant) → ◌≡◌ {A = Option (ℕ × Option Meant)} (Some x) None → ⊥
-no_pair x e = let z : ◌≡◌ {A = ℕ} 0 1 = cc in omega arith
-
--- the words of the first line, and of those after it
-pub words_on : (t : List ℕ) (ls : List Label) (n m : ℕ) (o : Option Meant) (lines : List (List ℕ)) → Some (m, o) ≡ first_said n lines → words_from t ls lines ≡ put_by t ls o ++ words_from t ls (tail_of lines)
-words_on t ls n m o [] e = absurd (no_pair _ e)
-words_on t ls n m o (l ∷ lines) e = sym (ap (λ x. put_by t ls x ++ words_from t ls lines) (ap (λ y. (unwrap_or {T = ℕ × Option Meant} y (n, line_says l)).1) e))
-
-pub words_end : (t : List ℕ) (ls : List Label) (n : ℕ) (lines : List (List ℕ)) → None ≡ first_said n lines → words_from t ls lines ≡ []
-words_end t ls n [] e = refl
-words_end t ls n (l ∷ lines) e = absurd (no_pair _ (sym e))
-
--- a line's words and then those of the lines after it
-pub line_then : (t : List ℕ) (ls : List Label) (n m : ℕ) (s : Option Meant) (lines rest : List (List ℕ)) (o o' o'' : List ℕ) (a r r' : ℕ)
-    → length o < 2 ^ 64 → Some (m, s) ≡ first_said n lines → rest ≡ tail_of lines → Wrote o a (flat_map four_bytes (put_by t ls s)) r o' → Wrote o' r (flat_map four_bytes (words_from t ls rest)) r' o''
-    → Wrote o a (flat_map four_bytes (words_from t ls lines)) r' o''
-line_then t ls n m s lines rest o o' o'' a r r' small e is f g =
-    let on : flat_map four_bytes (put_by t ls s) ++ flat_map four_bytes (words_from t ls rest) ≡ flat_map four_bytes (words_from t ls lines) =
-    sym (joined_append four_bytes (put_by t ls s) (words_from t ls rest)) ∙ ap (λ l. flat_map four_bytes (put_by t ls s ++ words_from t ls l)) is ∙ sym (ap (flat_map four_bytes) (words_on t ls n m s lines e)) in
-    subst (λ x. Wrote o a x r' o'') on (wrote_then o o' o'' a r r' (flat_map four_bytes (put_by t ls s)) (flat_map four_bytes (words_from t ls rest)) small f g)
 
 -- a string with a character in front
 pub more_left : (u v : Option (List ℕ)) (x : ℕ) → u ≡ in_front (Some x) v → is_some u ≡ true → is_some v ≡ true
@@ -71,12 +42,6 @@ more_left u (Some cs) x e s = refl
 pub constants_on : (u v : Option (List ℕ)) (x : ℕ) → u ≡ in_front (Some x) v → is_some u ≡ true → flat_map four_bytes (string_constants u) ≡ four_bytes x ++ flat_map four_bytes (string_constants v)
 constants_on u None x e s = absurd (false≢true (sym (ap is_some e) ∙ s))
 constants_on u (Some cs) x e s = ap (λ w. flat_map four_bytes (string_constants w)) e
-
--- a string goes on unless it is closed
-pub is_closed : (rest : List ℕ) (p : Piece) → Says rest p → ((v n : ℕ) → p ≡ Character v n → ⊥) → is_some (until_quote rest) ≡ true → until_quote rest ≡ Some []
-is_closed rest Closed h other s = h
-is_closed rest (Character v n) h other s = absurd (other v n refl)
-is_closed rest Bad h other s = absurd (false≢true (sym (ap is_some h) ∙ s))
 
 no_count : (n : ℕ) → ◌≡◌ {A = Option ℕ} (Some n) None → ⊥
 no_count n e = let z : ◌≡◌ {A = ℕ} 0 1 = cc in omega arith
@@ -95,7 +60,3 @@ some_counted (Some cs) n e = refl
 pub none_counted : (o : Option (List ℕ)) → None ≡ option_map length o → o ≡ None
 none_counted None e = refl
 none_counted (Some cs) e = absurd (no_count (length cs) (sym e))
-
--- seven parts, one after another
-pub seven : (a b c d e f g : List ℕ) → (((((a ++ b) ++ c) ++ d) ++ e) ++ f) ++ g ≡ a ++ (b ++ (c ++ (d ++ (e ++ (f ++ g)))))
-seven a b c d e f g = simp append_assoc

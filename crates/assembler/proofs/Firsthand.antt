@@ -9,7 +9,7 @@ use Rattle.assembler.specs.First.{NoOnLine, SaysNo, AllPass, FirstNo, ExactlyFir
 use Rattle.assembler.specs.Lines.{parts_of}
 use Rattle.assembler.specs.Questions.{asked, first_no, line_questions, number_of, refusal_in, labels_after, after}
 use Rattle.assembler.specs.declared.label.Label.{Label}
-use Rattle.assembler.specs.declared.progress.Progress.{Progress}
+use Rattle.assembler.specs.Progress.{Progress}
 use Rattle.assembler.specs.declared.question.Question.{Question}
 use Rattle.assembler.specs.declared.question.Question.TheVariants as question
 use Rattle.assembler.specs.declared.question.Refusal.{Refusal}

@@ -1,30 +1,24 @@
 -- The questions of a line, one after another.
-use Rattle.std.proofs.Common.{◌≡◌, ℕ, ◌+◌, Bool, true, false, cond, not, ◌&&◌, ◌||◌, List, length, is_some, Some, None, Ok, Err, Option, Result, sym, refl, ap, ◌∙◌, arith}
+use Rattle.std.proofs.Common.{◌≡◌, ℕ, Bool, true, false, cond, not, ◌&&◌, ◌||◌, List, is_some, Some, None, Ok, Err, Option, Result, sym, refl, ap, ◌∙◌, arith}
 use Rattle.std.specs.Option.{option_map}
 use Rattle.std.proofs.lemmas.Bool.{cond-true, cond-false, cond_both}
 use Rattle.executable.specs.Check.{ask}
 use Rattle.lexer.specs.Shown.{Shown}
 use Rattle.assembler.specs.Lines.{Parts, named, said_by, statement_in}
 use Rattle.assembler.specs.Operands.{right_count, right_form, right_range}
-use Rattle.assembler.specs.Questions.{followed_by, orderly, string_words, few_with, after_by, after, or_refused, body_refusal, body_of, right_label, label_room, label_refusal, refusal_in, entries_of, judge_of}
+use Rattle.assembler.specs.Questions.{followed_by, is, orderly, stack_in, few_with, after_by, after, or_refused, body_refusal, body_of, right_label, label_room, label_refusal, refusal_in, entries_of, judge_of}
 use Rattle.assembler.specs.declared.label.Label.{Label}
-use Rattle.assembler.specs.Statements.{Meant, statement_by, read_by, justly, read_named}
+use Rattle.assembler.specs.Mnemonics.{is_stack}
+use Rattle.assembler.specs.Statements.{Meant, code_with, end_with, statement_by, read_by, justly, read_named}
+use Rattle.assembler.specs.declared.mnemonic.Mnemonic.TheVariants as mnemonic
 use Rattle.assembler.specs.declared.mnemonic.Mnemonic.{Mnemonic}
-use Rattle.assembler.specs.declared.progress.Progress.{Progress}
+use Rattle.assembler.specs.Progress.{Progress}
 use Rattle.assembler.specs.declared.question.Question.{Question}
 use Rattle.assembler.specs.declared.question.Question.TheVariants as question
 
-pub string_none : (cs : Option (List ℕ)) → None ≡ option_map length cs → 0 ≡ string_words cs
-string_none None e = refl
-string_none (Some x) e = absurd (let h : Some (length x) ≡ None = sym e in cc)
-
-pub string_count : (o : Option (List ℕ)) (n : ℕ) → Some n ≡ option_map length o → n + 1 ≡ string_words o
-string_count None n e = let z : ◌≡◌ {A = ℕ} 0 1 = cc in absurd (omega arith)
-string_count (Some cs) n e = let s : n ≡ length cs = cc in ap (λ k. k + 1) s
-
-pub some_mapped : {X Y : Type 0} (f : X → Y) (o : Option X) → is_some o ≡ is_some (option_map f o)
-some_mapped f None = refl
-some_mapped f (Some x) = refl
+pub some_kept : {X Y : Type 0} (f : X → Y) (o : Option X) → is_some (option_map f o) ≡ is_some o
+some_kept f None = refl
+some_kept f (Some x) = refl
 
 -- three questions about operands that all get a yes
 all_yes : (a b c : Bool) (x y : Meant) → ask a question.Count (ask b question.Form (ask c question.Range (Ok x))) ≡ Ok y → (a ≡ true) × (b ≡ true) × (c ≡ true) × (x ≡ y)
@@ -62,6 +56,31 @@ named_ok (Some m) ws st rest e =
       cond-true _ _ _ y.0 ∙ cond-true _ _ _ y.1 ∙ cond-true _ _ _ y.2,
       cond-true (right_count m ws && (right_form m ws && right_range m ws)) (Some (statement_by m ws)) None (ap (λ b. b && (right_form m ws && right_range m ws)) y.0 ∙ ap (λ b. b && right_range m ws) y.1 ∙ y.2) ∙ ap Some y.3 ∙ sym x.2,
     )
+
+-- a label that stands for an address sets no stack pointer
+none_with_code : (w : ℕ) (l : Option (List ℕ)) → stack_in (Some (code_with w l)) ≡ None
+none_with_code w None = refl
+none_with_code w (Some l) = refl
+
+none_with_end : (n : ℕ) (l : Option (List ℕ)) → stack_in (Some (end_with n l)) ≡ None
+none_with_end n None = refl
+none_with_end n (Some l) = refl
+
+stacked_by : (m : Mnemonic) (ws : List Shown) → is_stack m ≡ is_some (stack_in (Some (statement_by m ws)))
+stacked_by (mnemonic.Command o) ws = sym (ap is_some (none_with_code _ _))
+stacked_by mnemonic.Word ws = refl
+stacked_by mnemonic.Uint32 ws = refl
+stacked_by mnemonic.Text ws = refl
+stacked_by mnemonic.Stack ws = refl
+stacked_by mnemonic.End ws = sym (ap is_some (none_with_end _ _))
+
+-- a statement that was read sets the stack pointer exactly where its mnemonic is `stack`
+pub stack_named : (mn : Option Mnemonic) (ws : List Shown) (st : Option Meant) → Ok st ≡ read_named mn ws → is is_stack mn ≡ is_some (stack_in st)
+stack_named None ws st e = let s : st ≡ None = cc in sym (ap (λ x. is_some (stack_in x)) s)
+stack_named (Some m) ws st e =
+    let x = justly_ok (read_by m ws) st e in
+    let y = all_yes (right_count m ws) (right_form m ws) (right_range m ws) (statement_by m ws) x.0 x.1 in
+    stacked_by m ws ∙ ap (λ s. is_some (stack_in (Some s))) y.3 ∙ sym (ap (λ s. is_some (stack_in s)) x.2)
 
 pub named_err : (mn : Option Mnemonic) (ws : List Shown) (q : Question) (rest : Option Question) → Err q ≡ read_named mn ws → operands_then mn ws rest ≡ Some q
 named_err None ws q rest e = let z : ◌≡◌ {A = ℕ} 0 1 = cc in absurd (omega arith)

@@ -1,10 +1,12 @@
-pub mod Bytes
+mod Counted
 pub mod Counts
 pub mod Emission
-pub mod Entries
 pub mod Firsthand
-pub mod Firsts
+pub mod Fits
 pub mod Forms
 pub mod Judges
+mod Mapped
+pub mod Numbered
+mod Parted
 pub mod Strings
 pub mod Turns

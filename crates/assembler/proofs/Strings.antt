@@ -1,35 +1,64 @@
 -- The pieces of a string.
-use Rattle.std.proofs.Common.{◌≡◌, ℕ, ◌+◌, ◌-◌, ◌<◌, ◌≤◌, cond, eqb, List, [], ◌∷◌, length, get_or, take, drop, IfSome, Some, None, Option, sym, refl, ap, ◌∙◌, arith}
-use Rattle.std.specs.Option.{option_map}
+use Rattle.std.proofs.Common.{◌≡◌, ℕ, ◌+◌, ◌-◌, ◌<◌, ◌≤◌, Bool, true, false, cond, ◌&&◌, eqb, List, [], ◌∷◌, length, get_or, take, drop, is_some, IfSome, Some, None, Ok, Err, Option, sym, refl, ap, ◌∙◌, arith}
+use Rattle.std.specs.Option.{option_map, unwrap_or}
 use Rattle.std.proofs.lemmas.List.{take_rest}
-use Rattle.std.proofs.lemmas.Bool.{cond-true, cond-false, cond_both, eq-eqb, ne_eqb}
+use Rattle.std.proofs.lemmas.Bool.{cond-true, cond_both, eq-eqb, false≢true}
+use Rattle.std.specs.Bool.{then_some}
+use Rattle.std.specs.Str.{bytes_eq}
 use Rattle.lexer.specs.Escape.{escaped_as}
-use Rattle.assembler.specs.Characters.{in_front, plain_character, until_quote, characters}
+use Rattle.executable.specs.Check.{ask}
+use Rattle.lexer.specs.Shown.{string}
+use Rattle.assembler.specs.Operands.{a_string}
+use Rattle.assembler.specs.Reading.{placed}
+use Rattle.assembler.specs.declared.question.Question.TheVariants as question
+use Rattle.assembler.specs.Characters.{in_front, plain_character, before, first_character, until_quote, characters}
 
-pub until_none : (rest : List ℕ) → length rest ≡ 0 → until_quote rest ≡ None
-until_none [] h = refl
-until_none (b ∷ rest) h = absurd (omega arith)
+-- a character in front of others, and as many bytes less
+front : (o : Option ℕ) (left after : List ℕ) (v : ℕ) → Some (v, after) ≡ before left o → (in_front o (until_quote left) ≡ in_front (Some v) (until_quote after)) × (length after ≤ length left)
+front None left after v e = let n : ◌≡◌ {A = ℕ} 0 1 = cc in absurd (omega arith)
+front (Some x) left after v e =
+    let pair : ◌≡◌ {A = ℕ × List ℕ} (v, after) (x, left) = cc in
+    let is : after ≡ left = ap (λ p. p.1) pair in
+    let same : v ≡ x = ap (λ p. p.0) pair in
+    (cc, omega (arith, ap length is))
 
-pub until_one : (rest : List ℕ) → length rest ≡ 1 → until_quote rest ≡ cond (eqb (get_or rest 0 0) 34) (Some []) None
-until_one [] h = absurd (omega arith)
-until_one (b ∷ []) h = refl
-until_one (b ∷ c ∷ rest) h = absurd (omega arith)
+-- a string that begins with a character has it in front of those after it
+pub splits_some : (rest after : List ℕ) (v : ℕ) → Some (v, after) ≡ first_character rest → (until_quote rest ≡ in_front (Some v) (until_quote after)) × (length after < length rest)
+splits_some [] after v e = let n : ◌≡◌ {A = ℕ} 0 1 = cc in absurd (omega arith)
+splits_some (b ∷ []) after v e = let n : ◌≡◌ {A = ℕ} 0 1 = cc in absurd (omega arith)
+splits_some (b ∷ c ∷ rest) after v e = go (eqb b 34) (eqb b 92) e where
+  go : (p q : Bool) → Some (v, after) ≡ cond p None (cond q (before rest (escaped_as c)) (before (c ∷ rest) (plain_character b)))
+      → (cond p None (cond q (in_front (escaped_as c) (until_quote rest)) (in_front (plain_character b) (until_quote (c ∷ rest)))) ≡ in_front (Some v) (until_quote after)) × (length after < length (b ∷ c ∷ rest))
+  go true q e = let n : ◌≡◌ {A = ℕ} 0 1 = cc in absurd (omega arith)
+  go false true e = let f = front (escaped_as c) rest after v e in (f.0, omega (arith, f.1))
+  go false false e = let f = front (plain_character b) (c ∷ rest) after v e in (f.0, omega (arith, f.1))
 
-pub until_more : (rest : List ℕ) → 2 ≤ length rest
-    → until_quote rest ≡ cond (eqb (get_or rest 0 0) 34) None (cond (eqb (get_or rest 0 0) 92) (in_front (escaped_as (get_or rest 1 0)) (until_quote (drop 2 rest))) (in_front (plain_character (get_or rest 0 0)) (until_quote (drop 1 rest))))
-until_more [] h = absurd (omega arith)
-until_more (b ∷ []) h = absurd (omega arith)
-until_more (b ∷ c ∷ rest) h = refl
+-- a string with no character in front is counted to its end where the closing quote is all of it, and else is no string
+pub splits_none : (rest : List ℕ) (n : ℕ) → None ≡ first_character rest → then_some (bytes_eq rest (34 ∷ [])) n ≡ option_map (λ cs. n + length cs) (until_quote rest)
+splits_none [] n e = refl
+splits_none (b ∷ []) n e = go (eqb b 34) where
+  go : (p : Bool) → then_some (p && true) n ≡ option_map (λ (cs : List ℕ). n + length cs) (cond p (Some []) None)
+  go true = let z : n ≡ n + length {A = ℕ} [] = omega arith in ap Some z
+  go false = refl
+splits_none (b ∷ c ∷ rest) n e = go (eqb b 34) (eqb b 92) e where
+  none : (o : Option ℕ) (left : List ℕ) → None ≡ before left o → None ≡ option_map (λ (cs : List ℕ). n + length cs) (in_front o (until_quote left))
+  none None left e = refl
+  none (Some x) left e = let n : ◌≡◌ {A = ℕ} 0 1 = cc in absurd (omega arith)
 
-module _ (rest : List ℕ) (long : 2 ≤ length rest) (inner : get_or rest 0 0 ≡ 34 → ⊥) where
-  past_quote : until_quote rest ≡ cond (eqb (get_or rest 0 0) 92) (in_front (escaped_as (get_or rest 1 0)) (until_quote (drop 2 rest))) (in_front (plain_character (get_or rest 0 0)) (until_quote (drop 1 rest)))
-  past_quote = until_more rest long ∙ cond-false _ _ _ (ne_eqb (get_or rest 0 0) 34 inner)
+  go : (p q : Bool) → None ≡ cond p None (cond q (before rest (escaped_as c)) (before (c ∷ rest) (plain_character b)))
+      → then_some (p && false) n ≡ option_map (λ (cs : List ℕ). n + length cs) (cond p None (cond q (in_front (escaped_as c) (until_quote rest)) (in_front (plain_character b) (until_quote (c ∷ rest)))))
+  go true q e = refl
+  go false true e = none (escaped_as c) rest e
+  go false false e = none (plain_character b) (c ∷ rest) e
 
-  pub until_escape : get_or rest 0 0 ≡ 92 → (r : Option ℕ) → r ≡ escaped_as (get_or rest 1 0) → until_quote rest ≡ in_front r (until_quote (drop 2 rest))
-  until_escape e r is = past_quote ∙ cond-true _ _ _ (eq-eqb (get_or rest 0 0) 92 e) ∙ ap (λ x. in_front x (until_quote (drop 2 rest))) (sym is)
-
-  pub until_plain : (get_or rest 0 0 ≡ 92 → ⊥) → (r : Option ℕ) → r ≡ plain_character (get_or rest 0 0) → until_quote rest ≡ in_front r (until_quote (drop 1 rest))
-  until_plain e r is = past_quote ∙ cond-false _ _ _ (ne_eqb (get_or rest 0 0) 92 e) ∙ ap (λ x. in_front x (until_quote (drop 1 rest))) (sym is)
+-- a string with no character in front is at its end
+pub is_closed : (rest : List ℕ) → None ≡ first_character rest → is_some (until_quote rest) ≡ true → until_quote rest ≡ Some []
+is_closed rest e s = go (bytes_eq rest (34 ∷ [])) (until_quote rest) (splits_none rest 0 e) s where
+  go : (b : Bool) (o : Option (List ℕ)) → then_some b 0 ≡ option_map (λ (cs : List ℕ). 0 + length cs) o → is_some o ≡ true → o ≡ Some []
+  go b None e s = absurd (false≢true s)
+  go b (Some []) e s = refl
+  go true (Some (x ∷ cs)) e s = let z : 0 ≡ 0 + length (x ∷ cs) = cc in absurd (omega arith)
+  go false (Some (x ∷ cs)) e s = let n : ◌≡◌ {A = ℕ} 0 1 = cc in absurd (omega arith)
 
 -- one character more is counted
 pub count_more : (n v : ℕ) (o : Option (List ℕ)) → option_map (λ cs. n + length cs) (in_front (Some v) o) ≡ option_map (λ cs. n + 1 + length cs) o
@@ -72,3 +101,16 @@ characters_short (b ∷ bs) = cond_both (eqb b 34) (until_quote bs) None (λ r. 
       weaker : (o : Option (List ℕ)) (n k : ℕ) → IfSome o (λ cs. length cs < n) → n < k → IfSome o (λ cs. length cs < k)
       weaker None n k h l = tt
       weaker (Some cs) n k h l = omega arith
+
+-- a quoted word whose characters were counted has the form of a string, and no other has
+pub string_counted : (w : List ℕ) (n : Option ℕ) → n ≡ option_map length (characters w) → is_some n ≡ true → Ok (characters w) ≡ placed a_string (string w) (Some (unwrap_or (characters w) []))
+string_counted w n e s = go (characters w) n e s where
+  go : (o : Option (List ℕ)) (n : Option ℕ) → n ≡ option_map length o → is_some n ≡ true → Ok o ≡ ask (is_some o) question.Form (Ok (Some (unwrap_or o [])))
+  go None n e s = absurd (false≢true (sym (ap is_some e) ∙ s))
+  go (Some cs) n e s = refl
+
+pub string_uncounted : (w : List ℕ) (n : Option ℕ) → n ≡ option_map length (characters w) → is_some n ≡ false → Err question.Form ≡ placed a_string (string w) (Some (unwrap_or (characters w) []))
+string_uncounted w n e s = go (characters w) n e s where
+  go : (o : Option (List ℕ)) (n : Option ℕ) → n ≡ option_map length o → is_some n ≡ false → Err question.Form ≡ ask (is_some o) question.Form (Ok (Some (unwrap_or o [])))
+  go None n e s = refl
+  go (Some cs) n e s = absurd (false≢true (sym s ∙ ap is_some e))

@@ -1,11 +1,13 @@
 -- What a text assembles to.
-use Rattle.std.specs.Prelude.{ℕ, ◌+◌, ◌*◌, Bool, true, false, cond, ◌&&◌, ◌||◌, List, [], ◌∷◌, ◌++◌, length, drop, Some, None, Ok, Err, Option, Result, ◌==◌, nat_le}
+use Rattle.std.specs.Prelude.{ℕ, ◌+◌, ◌*◌, Bool, false, cond, ◌&&◌, ◌||◌, List, [], ◌∷◌, ◌++◌, length, drop, Some, None, Ok, Err, Option, Result, ◌==◌, nat_le}
+use Rattle.std.specs.List.{list_all}
 use Rattle.lexer.specs.Text.{lines_of, words_of, before, blanks}
 use Rattle.assembler.specs.Emit.{words_from, lost_from, start_from, executable_of}
 use Rattle.assembler.specs.Lines.{parts_of}
 use Rattle.assembler.specs.Questions.{refusal_in, labels_after, after}
 use Rattle.assembler.specs.declared.label.Label.{Label}
-use Rattle.assembler.specs.declared.progress.Progress.{Progress}
+use Rattle.assembler.specs.Progress.{Progress, progress_of}
+use Rattle.assembler.specs.declared.progress.Progress as rust
 use Rattle.assembler.specs.declared.question.Question.{Question}
 use Rattle.assembler.specs.declared.question.Question.TheVariants as question
 use Rattle.assembler.specs.declared.question.Refusal.{Refusal}
@@ -16,8 +18,7 @@ text_byte b = b == 9 || (b == 10 || (nat_le 32 b && nat_le b 126))
 
 -- every byte may stand in a text
 abbrev pub all_text_bytes : List ℕ → Bool
-all_text_bytes [] = true
-all_text_bytes (b ∷ bs) = text_byte b && all_text_bytes bs
+all_text_bytes = list_all text_byte
 
 -- 1: is the text at most 2,097,152 bytes long, and may each of them stand in it?
 abbrev pub right_text : List ℕ → Bool
@@ -38,8 +39,8 @@ entered ls None = ls
 entered ls (Some x) = ls ++ x ∷ []
 
 -- what the first pass answers, with the labels that it leaves
-abbrev pub outcome : Result Progress Refusal → List Label → Outcome
-outcome (Ok pr) ls = passed ls pr
+abbrev pub outcome : Result rust.Progress Refusal → List Label → Outcome
+outcome (Ok pr) ls = passed ls (progress_of pr)
 outcome (Err r) ls = refused r.question r.origin.line ls
 
 -- a line with a no ends the lines, with the question, the line's number and the labels before it; else they go on

@@ -20,6 +20,17 @@ until_quote (b ∷ c ∷ rest) =
     cond (b == 34) None
     (cond (b == 92) (in_front (escaped_as c) (until_quote rest)) (in_front (plain_character b) (until_quote (c ∷ rest))))
 
+-- a character and the bytes after it, if it is one
+abbrev pub before : List ℕ → Option ℕ → Option (ℕ × List ℕ)
+before rest None = None
+before rest (Some c) = Some (c, rest)
+
+-- the character in front of what stands after the opening quote, and the bytes after that character
+abbrev pub first_character : List ℕ → Option (ℕ × List ℕ)
+first_character [] = None
+first_character (b ∷ []) = None
+first_character (b ∷ c ∷ rest) = cond (b == 34) None (cond (b == 92) (before rest (escaped_as c)) (before (c ∷ rest) (plain_character b)))
+
 -- the characters of a quoted word
 abbrev pub characters : List ℕ → Option (List ℕ)
 characters [] = None

@@ -7,7 +7,7 @@ use Rattle.assembler.specs.Emit.{lost_from}
 use Rattle.assembler.specs.Lines.{parts_of}
 use Rattle.assembler.specs.Questions.{asked, number_of}
 use Rattle.assembler.specs.declared.label.Label.{Label}
-use Rattle.assembler.specs.declared.progress.Progress.{Progress}
+use Rattle.assembler.specs.Progress.{Progress}
 use Rattle.assembler.specs.declared.question.Question.{Question}
 use Rattle.assembler.specs.declared.question.Question.TheVariants as question
 use Rattle.assembler.specs.declared.question.Refusal.{Refusal}

@@ -1,5 +1,7 @@
 -- Labels: which names may be one, and which address a name has.
-use Rattle.std.specs.Prelude.{ℕ, Bool, true, false, cond, not, ◌&&◌, ◌||◌, List, [], ◌∷◌, take, drop, is_some, Some, None, Option, ◌==◌, nat_le}
+use Rattle.std.specs.Prelude.{ℕ, Bool, false, not, ◌&&◌, ◌||◌, List, [], ◌∷◌, take, drop, is_some, Option, ◌==◌, nat_le}
+use Rattle.std.specs.List.{find, list_all}
+use Rattle.std.specs.Option.{option_map}
 use Rattle.std.specs.Str.{bytes_eq}
 use Rattle.lexer.specs.Shown.{digit, register_number}
 use Rattle.assembler.specs.Mnemonics.{mnemonic_of}
@@ -9,15 +11,10 @@ use Rattle.assembler.specs.declared.label.Label.{Label}
 abbrev pub label_byte : ℕ → Bool
 label_byte b = (nat_le 97 b && nat_le b 122) || (digit b || (b == 95 || b == 46))
 
--- every byte may stand in the name of a label
-abbrev pub all_label_bytes : List ℕ → Bool
-all_label_bytes [] = true
-all_label_bytes (b ∷ bs) = label_byte b && all_label_bytes bs
-
 -- one such byte or more, no digit first
 abbrev pub lawful : List ℕ → Bool
 lawful [] = false
-lawful (b ∷ bs) = not (digit b) && all_label_bytes (b ∷ bs)
+lawful (b ∷ bs) = not (digit b) && list_all label_byte (b ∷ bs)
 
 -- reserved are the names of commands, constants, directives and registers
 abbrev pub reserved : List ℕ → Bool
@@ -33,5 +30,4 @@ name_in text l = take l.length (drop l.place.offset text)
 
 -- the address of the first entry with a name
 abbrev pub address_in : List ℕ → List ℕ → List Label → Option ℕ
-address_in text w [] = None
-address_in text w (l ∷ ls) = cond (bytes_eq (name_in text l) w) (Some l.address) (address_in text w ls)
+address_in text w ls = option_map (λ l. l.address) (find (λ l. bytes_eq (name_in text l) w) ls)

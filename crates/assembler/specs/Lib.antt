@@ -6,8 +6,7 @@ pub mod Labels
 pub mod Lines
 pub mod Mnemonics
 pub mod Operands
-pub mod Pieces
+pub mod Progress
 pub mod Questions
 pub mod Reading
-pub mod Said
 pub mod Statements

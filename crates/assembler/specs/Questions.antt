@@ -5,12 +5,11 @@ use Rattle.assembler.specs.Labels.{usable, address_in}
 use Rattle.assembler.specs.Lines.{Parts, named, statement_in}
 use Rattle.assembler.specs.Mnemonics.{is_directive, is_code, is_constant, is_stack}
 use Rattle.assembler.specs.Operands.{right_count, right_form, right_range}
+use Rattle.assembler.specs.Progress.{Progress, Judged}
 use Rattle.assembler.specs.Statements as said
 use Rattle.assembler.specs.Statements.{Meant}
 use Rattle.assembler.specs.declared.label.Label.{Label}
 use Rattle.assembler.specs.declared.mnemonic.Mnemonic.{Mnemonic}
-use Rattle.assembler.specs.declared.progress.Judged.{Judged}
-use Rattle.assembler.specs.declared.progress.Progress.{Progress}
 use Rattle.assembler.specs.declared.question.Question.{Question}
 use Rattle.assembler.specs.declared.question.Question.TheVariants as question
 
@@ -157,6 +156,17 @@ stack_after n (Some (said.text cs)) = n
 stack_after n (Some (said.stack k)) = k
 stack_after n (Some (said.end k)) = n
 stack_after n (Some (said.end_at l)) = n
+
+-- the stack pointer that a statement sets, if it sets one
+abbrev pub stack_in : Option Meant → Option ℕ
+stack_in None = None
+stack_in (Some (said.code w)) = None
+stack_in (Some (said.labelled w l)) = None
+stack_in (Some (said.constant k)) = None
+stack_in (Some (said.text cs)) = None
+stack_in (Some (said.stack k)) = Some k
+stack_in (Some (said.end k)) = None
+stack_in (Some (said.end_at l)) = None
 
 -- `end`, with an address or a label
 abbrev pub is_end : Option Meant → Bool

@@ -7,10 +7,9 @@ use Rattle.isa.specs.Operands.{Numbers, rr, ri, rm, j}
 use Rattle.isa.specs.Table.{form_of}
 use Rattle.isa.specs.declared.form.Form.{Form}
 use Rattle.isa.specs.declared.form.Form.TheVariants.{Rr, Ri, Rm, J}
-use Rattle.isa.specs.declared.opcode.Opcode.{Opcode}
 use Rattle.lexer.specs.Shown.{Shown}
 use Rattle.assembler.specs.Characters.{characters}
-use Rattle.assembler.specs.Operands.{label_in, operand, register_at, integer_at, natural_at, characters_at, places_in, each, well_formed, in_range, right_count, right_form, right_range}
+use Rattle.assembler.specs.Operands.{label_in, operand, register_at, integer_at, natural_at, characters_at, right_count, right_form, right_range}
 use Rattle.assembler.specs.declared.mnemonic.Mnemonic.{Mnemonic}
 use Rattle.assembler.specs.declared.mnemonic.Mnemonic.TheVariants.{Command, Word, Uint32, Text, Stack, End}
 use Rattle.assembler.specs.declared.question.Question.{Question}
@@ -74,12 +73,6 @@ statement_by End ws = end_with (natural_at 0 ws) (label_in (operand 0 ws))
 -- none where one of the questions gets a no
 abbrev pub said : Mnemonic → List Shown → Option Meant
 said m ws = cond (right_count m ws && (right_form m ws && right_range m ws)) (Some (statement_by m ws)) None
-
--- a form's operands: questions 8 and 9, of operands that are as many as the form takes
-abbrev pub read_form : Opcode → Form → List Shown → Result Meant Question
-read_form o f ws =
-    ask (each well_formed (places_in f) ws) question.Form
-    (ask (each in_range (places_in f) ws) question.Range (Ok (code_with (encoded (instruction o (numbers_by f ws))) (label_by f ws))))
 
 -- questions 8 and 9, of as many operands as the mnemonic takes
 abbrev pub read_counted : Mnemonic → List Shown → Result Meant Question

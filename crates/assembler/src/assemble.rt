@@ -1,38 +1,31 @@
 //! Assembling.
 
-ghost use Rattle.std.specs.Prelude.{◌≡◌, ◌+◌, ◌≤◌, length, drop};
-ghost use Rattle.bounded.specs.Held.{entries, room};
-ghost use Rattle.lexer.specs.Text.{lines_of};
+ghost use Rattle.std.specs.Prelude.{◌≡◌, length};
+ghost use Rattle.bounded.specs.Held.{entries, room, KeepsRest};
 ghost use Rattle.output.specs.Overlay.{Wrote};
 ghost use Rattle.assembler.specs.Assembled.{assembled, answer_of, labels_of, output_of, executable_in};
 ghost use Rattle.assembler.specs.First.{ExactlyFirstNo};
+ghost use Rattle.assembler.specs.Progress.{progress_of};
 
 use crate::emit::{find_lost, find_start, put_header, put_words};
 use crate::label::Label;
 use crate::pass::first_pass;
 use crate::progress::Progress;
-use crate::question::{Origin, Question, Refusal};
+use crate::question::{Question, Refusal};
+use crate::symbols::Symbols;
 use crate::text::is_text;
 use bounded::list::BoundedList;
+use output::writer::Writer;
 
-/// A refusal that no line is the cause of.
-fn refuse(question: Question) -> Refusal
-    ensures { result ≡ record { question = question; origin = record { line = 0 } } }
+/// Writes the executable, and answers its length.
+fn put_executable(symbols: Symbols, progress: Progress, out: &mut [u8]) -> usize
+    ensures { Wrote out.old 0 (executable_in symbols.entry.text.now symbols.entry.labels.now (progress_of progress)) result out.new }
 {
-    Refusal {
-        question,
-        origin: Origin { line: 0 },
-    }
-}
-
-/// Writes the executable.
-fn put_executable(text: &[u8], labels: &[Label], progress: Progress, out: &mut [u8]) -> usize
-    requires { progress.code + progress.pool ≤ 65536 }
-    ensures { Wrote out.old 0 (executable_in text.now labels.now progress) result out.new }
-{
-    let first = find_start(text, labels);
-    let at = put_header(out, progress.code, progress.pool, first, progress.stack);
-    put_words(out, at, text, labels)
+    let first = find_start(symbols);
+    let mut writer = Writer::new(out);
+    put_header(&mut writer, progress.sizes, first, progress.stack_pointer());
+    put_words(&mut writer, symbols);
+    writer.len()
 }
 
 /// Asks the questions in their order, and writes the executable where none gets a no.
@@ -44,27 +37,27 @@ fn assemble_text(
     ensures value { result ≡ answer_of (assembled text.now (room labels.old) (length out.old)) }
     ensures labels { entries labels.new ≡ labels_of (assembled text.now (room labels.old) (length out.old)) }
     ensures output { out.new ≡ output_of (assembled text.now (room labels.old) (length out.old)) out.old }
-    ensures past { drop labels.new.len labels.new.items.now ≡ drop labels.new.len labels.old.items.now }
-    ensures lender { labels.new.items.ghost_name ≡ labels.old.items.ghost_name }
+    ensures rest { KeepsRest labels.old labels.new }
 {
     labels.clear();
     if !is_text(text) {
-        return Err(refuse(Question::Text));
+        return Err(Question::Text.into());
     }
     let progress = first_pass(text, labels)?;
     if !progress.ended {
-        return Err(refuse(Question::End));
+        return Err(Question::End.into());
     }
-    if let Some(line) = find_lost(text, labels.as_slice()) {
-        return Err(Refusal {
-            question: Question::Defined,
-            origin: Origin { line },
-        });
+    let symbols = Symbols {
+        text,
+        labels: labels.as_slice(),
+    };
+    if let Some(line) = find_lost(symbols) {
+        return Err(Refusal::on_line(Question::Defined, line));
     }
-    if 512 + 4 * (progress.code as usize + progress.pool as usize) > out.len() {
-        return Err(refuse(Question::Output));
+    if 512 + 4 * (progress.sizes.total() as usize) > out.len() {
+        return Err(Question::Output.into());
     }
-    Ok(put_executable(text, labels.as_slice(), progress, out))
+    Ok(put_executable(symbols, progress, out))
 }
 
 /// Assembles a text: the executable is written to `out`, and its length is answered. The labels are entered into the
@@ -77,8 +70,7 @@ pub fn assemble(
     ensures value { result ≡ answer_of (assembled text.now (room labels.old) (length out.old)) }
     ensures labels { entries labels.new ≡ labels_of (assembled text.now (room labels.old) (length out.old)) }
     ensures output { out.new ≡ output_of (assembled text.now (room labels.old) (length out.old)) out.old }
-    ensures past { drop labels.new.len labels.new.items.now ≡ drop labels.new.len labels.old.items.now }
-    ensures lender { labels.new.items.ghost_name ≡ labels.old.items.ghost_name }
+    ensures rest { KeepsRest labels.old labels.new }
     ensures first { ExactlyFirstNo text.now (room labels.old) (length out.old) result }
 {
     assemble_text(text, labels, out)

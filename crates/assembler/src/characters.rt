@@ -2,56 +2,26 @@
 
 ghost use Rattle.std.specs.Prelude.{◌≡◌, ◌<◌, length, IfSome};
 ghost use Rattle.std.specs.Option.{option_map};
-ghost use Rattle.assembler.specs.Characters.{characters, plain_character, until_quote};
-ghost use Rattle.assembler.specs.Pieces.{Says};
+ghost use Rattle.assembler.specs.Characters.{characters, plain_character, first_character, until_quote};
 
 use lexer::escape::escaped;
-
-/// What stands in front of the rest of a string, past its opening quote.
-#[derive(Clone, Copy)]
-pub enum Piece {
-    /// The closing quote, with nothing after it.
-    Closed,
-    /// A character, and how many bytes it takes.
-    Character { value: u8, taken: usize },
-    /// Anything else.
-    Bad,
-}
 
 /// A byte that stands for itself: 32 to 126.
 fn plain_character(b: u8) -> Option<u8>
     ensures { result ≡ plain_character b }
 {
-    if b >= 32 && b <= 126 { Some(b) } else { None }
+    matches!(b, 32..=126).then_some(b)
 }
 
-/// The piece in front.
-pub(crate) fn first_piece(rest: &[u8]) -> Piece
-    ensures { Says rest.now result }
+/// The character in front of a string past its opening quote, and the bytes after that character; none at a
+/// quote, and where no character is in front.
+pub(crate) fn first_character<'a>(rest: &'a [u8]) -> Option<(u8, &'a [u8])>
+    ensures { option_map (λ x. (x.0, x.1.now)) result ≡ first_character rest.now }
 {
-    if rest.len() == 0 {
-        return Piece::Bad;
-    }
-    let first = rest[0];
-    if rest.len() == 1 {
-        return if first == b'"' {
-            Piece::Closed
-        } else {
-            Piece::Bad
-        };
-    }
-    if first == b'"' {
-        return Piece::Bad;
-    }
-    if first == b'\\' {
-        return match escaped(rest[1]) {
-            Some(value) => Piece::Character { value, taken: 2 },
-            None => Piece::Bad,
-        };
-    }
-    match plain_character(first) {
-        Some(value) => Piece::Character { value, taken: 1 },
-        None => Piece::Bad,
+    match rest {
+        [] | [_] | [b'"', ..] => None,
+        [b'\\', escape, left @ ..] => Some((escaped(*escape)?, left)),
+        [plain, left @ ..] => Some((plain_character(*plain)?, left)),
     }
 }
 
@@ -61,16 +31,11 @@ fn count_rest(rest: &[u8]) -> Option<usize>
 {
     let mut count = 0;
     let mut left = rest;
-    loop {
-        match first_piece(left) {
-            Piece::Closed => return Some(count),
-            Piece::Bad => return None,
-            Piece::Character { taken, .. } => {
-                left = &left[taken..];
-                count += 1;
-            }
-        }
+    while let Some((_, after)) = first_character(left) {
+        left = after;
+        count += 1;
     }
+    (left == b"\"".as_slice()).then_some(count)
 }
 
 /// How many characters a quoted word has, or none where it is no string.

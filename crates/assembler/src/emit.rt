@@ -1,140 +1,111 @@
 //! The second pass: the labels that are used, the first instruction, and the words.
 
-ghost use Rattle.std.specs.Prelude.{◌≡◌, ◌≤◌, true, is_some};
+ghost use Rattle.std.specs.Prelude.{◌≡◌, ◌≤◌, ◌*◌, true, is_some};
 ghost use Rattle.std.specs.List.{flat_map};
 ghost use Rattle.std.specs.Option.{option_map};
 ghost use Rattle.lexer.specs.Text.{lines_of};
-ghost use Rattle.output.specs.Overlay.{Wrote};
+ghost use Rattle.output.specs.Writes.{Put};
 ghost use Rattle.assembler.specs.Characters.{characters, until_quote};
-ghost use Rattle.assembler.specs.Emit.{uses, is_lost, lost_from, start_from, string_constants, put_by, words_from, four_bytes, header_of};
+ghost use Rattle.assembler.specs.Emit.{lost_from, start_from, string_constants, put_by, words_from, four_bytes, header_of};
 ghost use Rattle.assembler.specs.Statements.{meant};
 
-use crate::characters::{Piece, count_characters, first_piece};
-use crate::label::Label;
-use crate::labels::find_label;
-use crate::said::next_said;
+use crate::characters::{count_characters, first_character};
+use crate::line::statement_of;
+use crate::sizes::Sizes;
 use crate::statement::Statement;
+use crate::symbols::Symbols;
 use lexer::lines::Lines;
-use output::put::put_text;
-
-/// Whether a statement uses a label that is not defined.
-fn is_lost(text: &[u8], labels: &[Label], statement: Option<Statement>) -> bool
-    ensures { result ≡ is_lost text.now labels.now (uses (option_map meant statement.entry)) }
-{
-    match statement {
-        Some(Statement::Labelled { label, .. }) => find_label(text, labels, label).is_none(),
-        Some(Statement::EndAt(label)) => find_label(text, labels, label).is_none(),
-        _ => false,
-    }
-}
+use output::writer::Writer;
 
 /// The line of the first use of a label that is not defined.
-pub(crate) fn find_lost(text: &[u8], labels: &[Label]) -> Option<usize>
-    ensures { result ≡ lost_from text.now labels.now 1 (lines_of text.now) }
+pub(crate) fn find_lost(symbols: Symbols) -> Option<usize>
+    ensures { result ≡ lost_from symbols.entry.text.now symbols.entry.labels.now 1 (lines_of symbols.entry.text.now) }
 {
-    let mut lines = Lines::new(text);
-    while let Some(said) = next_said(text, &mut lines) {
-        if is_lost(text, labels, said.statement) {
-            return Some(said.line);
+    for line in Lines::new(symbols.text) {
+        if symbols.lacks(statement_of(line)) {
+            return Some(line.number);
         }
     }
     None
 }
 
 /// The first instruction.
-pub(crate) fn find_start(text: &[u8], labels: &[Label]) -> u32
-    ensures { result ≡ start_from text.now labels.now (lines_of text.now) }
+pub(crate) fn find_start(symbols: Symbols) -> u32
+    ensures { result ≡ start_from symbols.entry.text.now symbols.entry.labels.now (lines_of symbols.entry.text.now) }
 {
-    let mut lines = Lines::new(text);
-    while let Some(said) = next_said(text, &mut lines) {
-        if let Some(Statement::End(address)) = said.statement {
-            return address;
-        }
-        if let Some(Statement::EndAt(label)) = said.statement {
-            return find_label(text, labels, label).unwrap_or(0);
+    for line in Lines::new(symbols.text) {
+        if let Some(first) = symbols.start_in(statement_of(line)) {
+            return first;
         }
     }
     0
 }
 
 /// Writes a word, least byte first.
-fn put_word(out: &mut [u8], at: usize, word: u32) -> usize
-    ensures { Wrote out.old at (four_bytes word) result out.new }
+fn put_word(writer: &mut Writer, word: u32)
+    ensures { Put writer.old (four_bytes word) writer.new }
 {
-    put_text(out, at, &word.to_le_bytes())
+    writer.put(&word.to_le_bytes());
 }
 
 /// Writes a word for each character up to the closing quote, and a 0.
-fn put_characters(out: &mut [u8], at: usize, rest: &[u8]) -> usize
+fn put_characters(writer: &mut Writer, rest: &[u8])
     requires { is_some (until_quote rest.now) ≡ true }
-    ensures { Wrote out.old at (flat_map four_bytes (string_constants (until_quote rest.now))) result out.new }
+    ensures { Put writer.old (flat_map four_bytes (string_constants (until_quote rest.now))) writer.new }
 {
-    let mut end = at;
     let mut left = rest;
-    while let Piece::Character { value, taken } = first_piece(left) {
-        end = put_word(out, end, u32::from(value));
-        left = &left[taken..];
+    while let Some((character, after)) = first_character(left) {
+        put_word(writer, u32::from(character));
+        left = after;
     }
-    put_word(out, end, 0)
+    put_word(writer, 0);
 }
 
 /// Writes a word for each character of a string past its opening quote, and a 0.
-fn put_string(out: &mut [u8], at: usize, part: &[u8]) -> usize
-    ensures { Wrote out.old at (flat_map four_bytes (string_constants (characters part.now))) result out.new }
+fn put_string(writer: &mut Writer, part: &[u8])
+    ensures { Put writer.old (flat_map four_bytes (string_constants (characters part.now))) writer.new }
 {
-    match count_characters(part) {
-        Some(_) => put_characters(out, at, &part[1..]),
-        None => at,
+    if let Some(_) = count_characters(part) {
+        put_characters(writer, &part[1..]);
     }
 }
 
 /// Writes the words of a statement.
-fn put_statement(
-    out: &mut [u8],
-    at: usize,
-    text: &[u8],
-    labels: &[Label],
-    statement: Option<Statement>,
-) -> usize
-    ensures { Wrote out.old at (flat_map four_bytes (put_by text.now labels.now (option_map meant statement.entry))) result out.new }
+fn put_statement(writer: &mut Writer, symbols: Symbols, statement: Option<Statement>)
+    ensures { Put writer.old (flat_map four_bytes (put_by symbols.entry.text.now symbols.entry.labels.now (option_map meant statement.entry))) writer.new }
 {
     let Some(statement) = statement else {
-        return at;
+        return;
     };
     match statement {
-        Statement::Code(word) => put_word(out, at, word),
+        Statement::Code(word) | Statement::Constant(word) => put_word(writer, word),
         Statement::Labelled { word, label } => {
-            let address = find_label(text, labels, label).unwrap_or(0);
-            put_word(out, at, word.wrapping_add(address))
+            let address = symbols.address_of(label).unwrap_or(0);
+            put_word(writer, word.wrapping_add(address));
         }
-        Statement::Constant(word) => put_word(out, at, word),
-        Statement::Text(part) => put_string(out, at, part),
-        Statement::Stack(_) | Statement::End(_) | Statement::EndAt(_) => at,
+        Statement::Text(part) => put_string(writer, part),
+        Statement::Stack(_) | Statement::End(_) | Statement::EndAt(_) => {}
     }
 }
 
-/// Writes the words of all lines from a place on.
-pub(crate) fn put_words(out: &mut [u8], at: usize, text: &[u8], labels: &[Label]) -> usize
-    ensures { Wrote out.old at (flat_map four_bytes (words_from text.now labels.now (lines_of text.now))) result out.new }
+/// Writes the words of all lines.
+pub(crate) fn put_words(writer: &mut Writer, symbols: Symbols)
+    ensures { Put writer.old (flat_map four_bytes (words_from symbols.entry.text.now symbols.entry.labels.now (lines_of symbols.entry.text.now))) writer.new }
 {
-    let mut end = at;
-    let mut lines = Lines::new(text);
-    while let Some(said) = next_said(text, &mut lines) {
-        end = put_statement(out, end, text, labels, said.statement);
+    for line in Lines::new(symbols.text) {
+        put_statement(writer, symbols, statement_of(line));
     }
-    end
 }
 
 /// Writes the header of an executable.
-pub(crate) fn put_header(out: &mut [u8], code: u32, constants: u32, first: u32, stack: u32) -> usize
-    requires { (code ≤ 65536) × (constants ≤ 65536) }
-    ensures { Wrote out.old 0 (header_of code constants first stack) result out.new }
+pub(crate) fn put_header(writer: &mut Writer, sizes: Sizes, first: u32, stack: u32)
+    ensures { Put writer.old (header_of sizes.code sizes.constants first stack) writer.new }
 {
-    let at = put_text(out, 0, b"ThisIsKarmaExec\0");
-    let at = put_word(out, at, 4 * code);
-    let at = put_word(out, at, 4 * constants);
-    let at = put_word(out, at, first);
-    let at = put_word(out, at, stack);
-    let at = put_word(out, at, 239);
-    put_text(out, at, &[0; 476])
+    writer.put(b"ThisIsKarmaExec\0");
+    put_word(writer, 4 * sizes.code);
+    put_word(writer, 4 * sizes.constants);
+    put_word(writer, first);
+    put_word(writer, stack);
+    put_word(writer, 239);
+    writer.put(&[0; 476]);
 }

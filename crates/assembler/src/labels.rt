@@ -1,7 +1,7 @@
 //! The entries of the label list.
 
 ghost use Rattle.std.specs.Prelude.{◌≡◌, take, drop};
-ghost use Rattle.assembler.specs.Labels.{name_in, address_in};
+ghost use Rattle.assembler.specs.Labels.{name_in};
 
 use crate::label::Label;
 
@@ -9,15 +9,8 @@ use crate::label::Label;
 fn part<'a>(text: &'a [u8], place: usize, length: usize) -> &'a [u8]
     ensures { result.now ≡ take length (drop place text.now) }
 {
-    if place >= text.len() {
-        return &text[0..0];
-    }
-    let rest = &text[place..];
-    if length >= rest.len() {
-        rest
-    } else {
-        &rest[0..length]
-    }
+    let rest = &text[place.min(text.len())..];
+    &rest[..length.min(rest.len())]
 }
 
 /// The name of an entry.
@@ -25,16 +18,4 @@ pub fn name_of<'a>(text: &'a [u8], label: Label) -> &'a [u8]
     ensures { result.now ≡ name_in text.now label }
 {
     part(text, label.place.offset, label.length)
-}
-
-/// The address of the label with a name.
-pub(crate) fn find_label(text: &[u8], labels: &[Label], name: &[u8]) -> Option<u32>
-    ensures { result ≡ address_in text.now name.now labels.now }
-{
-    for label in labels {
-        if name_of(text, *label) == name {
-            return Some(label.address);
-        }
-    }
-    None
 }

@@ -4,17 +4,22 @@
 
 pub mod assemble;
 pub mod characters;
+mod effect;
 mod emit;
+mod heading;
 mod judge;
 pub mod label;
 pub mod labels;
+mod line;
 pub mod mnemonic;
 mod operand;
 mod pass;
-pub mod progress;
+mod progress;
 pub mod question;
 mod read;
 mod reserved;
-pub mod said;
+mod sizes;
 pub mod statement;
+mod symbols;
+mod target;
 mod text;

@@ -1,11 +1,14 @@
 //! The names of commands, constants and directives.
 
-ghost use Rattle.std.specs.Prelude.{◌≡◌};
-ghost use Rattle.assembler.specs.Mnemonics.{mnemonic_of, is_directive};
+ghost use Rattle.std.specs.Prelude.{◌≡◌, Some};
+ghost use Rattle.assembler.specs.Mnemonics.{mnemonic_of};
+ghost use Rattle.lexer.specs.Shown.{shown};
+ghost use Rattle.assembler.specs.Lines.{named};
 ghost use Rattle.std.specs.Option.{option_map};
 ghost use Rattle.isa.specs.Table.{opcode_named};
 
 use isa::opcode::Opcode;
+use lexer::word::Word;
 
 /// What the name of a line says.
 #[derive(Clone, Copy)]
@@ -37,26 +40,17 @@ impl Mnemonic {
         } else if name == b"end".as_slice() {
             Some(Mnemonic::End)
         } else {
-            command_named(name)
+            Opcode::from_name(name).map(Mnemonic::Command)
         }
     }
 
-    /// Whether it is a directive.
-    pub(crate) fn is_directive(self) -> bool
-        ensures { result ≡ is_directive self }
+    /// What a word names, if it is a name.
+    pub(crate) fn of_word(word: Word) -> Option<Mnemonic>
+        ensures { result ≡ named (Some (shown word.entry)) }
     {
-        match self {
-            Mnemonic::Stack | Mnemonic::End => true,
-            _ => false,
+        match word {
+            Word::Name(name) => Mnemonic::from_name(name),
+            _ => None,
         }
-    }
-}
-
-fn command_named(name: &[u8]) -> Option<Mnemonic>
-    ensures { result ≡ option_map Mnemonic.Command (opcode_named name.now) }
-{
-    match Opcode::from_name(name) {
-        Some(opcode) => Some(Mnemonic::Command(opcode)),
-        None => None,
     }
 }

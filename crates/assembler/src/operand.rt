@@ -1,14 +1,19 @@
-//! Reading one operand.
+//! Reading one operand: questions 8 and 9.
 
-ghost use Rattle.std.specs.Prelude.{◌≡◌, ◌^◌, ◌≤◌, false, drop};
-ghost use Rattle.std.specs.Option.{option_map};
+ghost use Rattle.std.specs.Prelude.{◌≡◌, pos, false, [], drop, Some};
+ghost use Rattle.std.specs.Option.{option_map, unwrap_or};
+ghost use Rattle.isa.specs.Ranges.{in_bits};
 ghost use Rattle.lexer.specs.Shown.{shown};
 ghost use Rattle.numerals.specs.Integer.{capped_integer};
 ghost use Rattle.numerals.specs.Natural.{capped};
-ghost use Rattle.assembler.specs.Operands.{register_in, integer_in, natural_in, label_in, operand};
-ghost use Rattle.assembler.specs.Reading.{operands_in, fitting, under};
+ghost use Rattle.assembler.specs.Operands.{register_in, integer_in, natural_in, label_in, characters_in, a_register, a_modifier, an_immediate, a_number, an_address, a_target, a_string, operand};
+ghost use Rattle.assembler.specs.Characters.{characters};
+ghost use Rattle.assembler.specs.Reading.{operands_in, placed, result_map, aimed};
 
+use crate::characters::count_characters;
+use crate::question::Question;
 use crate::reserved::is_usable;
+use crate::target::Target;
 use isa::address::Address;
 use isa::immediate::Immediate;
 use isa::register::Register;
@@ -19,19 +24,14 @@ use numerals::natural::read_natural;
 
 /// The next operand; where there is none, a name that nothing has.
 pub(crate) fn next_operand<'a>(words: &mut Words<'a>) -> Word<'a>
-    requires { words.old.fresh ≡ false }
     ensures value { shown result ≡ operand 0 (operands_in words.old) }
     ensures left { operands_in words.new ≡ drop 1 (operands_in words.old) }
-    ensures fresh { words.new.fresh ≡ false }
 {
-    match words.next() {
-        Some(told) => told.word,
-        None => Word::Name(b""),
-    }
+    words.next().map_or(Word::Name(b""), |told| told.word)
 }
 
 /// The register that a word names.
-pub(crate) fn register_of(word: Word) -> Option<Register>
+fn register_of(word: Word) -> Option<Register>
     ensures { option_map (λ q. q.number) result ≡ register_in (shown word.entry) }
 {
     let Word::Register(part) = word else {
@@ -41,7 +41,7 @@ pub(crate) fn register_of(word: Word) -> Option<Register>
 }
 
 /// The integer that a word writes.
-pub(crate) fn integer_of(word: Word) -> Option<i64>
+fn integer_of(word: Word) -> Option<i64>
     ensures { result ≡ option_map capped_integer (integer_in (shown word.entry)) }
 {
     let Word::Number(part) = word else {
@@ -51,7 +51,7 @@ pub(crate) fn integer_of(word: Word) -> Option<i64>
 }
 
 /// The number without a sign that a word writes.
-pub(crate) fn natural_of(word: Word) -> Option<u64>
+fn natural_of(word: Word) -> Option<u64>
     ensures { result ≡ option_map capped (natural_in (shown word.entry)) }
 {
     let Word::Number(part) = word else {
@@ -61,56 +61,82 @@ pub(crate) fn natural_of(word: Word) -> Option<u64>
 }
 
 /// The label that a word is the name of.
-pub(crate) fn label_of<'a>(word: Word<'a>) -> Option<&'a [u8]>
+fn label_of<'a>(word: Word<'a>) -> Option<&'a [u8]>
     ensures { option_map (λ x. x.now) result ≡ label_in (shown word.entry) }
 {
     let Word::Name(part) = word else {
         return None;
     };
-    if is_usable(part) { Some(part) } else { None }
+    is_usable(part).then_some(part)
 }
 
-/// A number as a modifier.
-pub(crate) fn modifier_from(number: i64) -> Option<i16>
-    ensures { result ≡ fitting 16 number }
+/// A register.
+pub(crate) fn read_register(word: Word) -> Result<Register, Question>
+    ensures { result_map (λ q. q.number) result ≡ placed a_register (shown word.entry) (unwrap_or (register_in (shown word.entry)) 0) }
 {
-    if number >= -32_768 && number <= 32_767 {
-        Some(number as i16)
-    } else {
-        None
+    register_of(word).ok_or(Question::Form)
+}
+
+/// A signed number of 16 bits.
+pub(crate) fn read_modifier(word: Word) -> Result<i16, Question>
+    ensures { result ≡ placed a_modifier (shown word.entry) (unwrap_or (integer_in (shown word.entry)) (pos 0)) }
+{
+    let number = integer_of(word).ok_or(Question::Form)?;
+    i16::try_from(number).ok().ok_or(Question::Range)
+}
+
+/// An integer as an immediate.
+fn immediate_from(number: i64) -> Option<Immediate>
+    ensures { option_map (λ i. i.value) result ≡ in_bits 20 number }
+{
+    Immediate::new(i32::try_from(number).ok()?)
+}
+
+/// A signed number of 20 bits.
+pub(crate) fn read_immediate(word: Word) -> Result<Immediate, Question>
+    ensures { result_map (λ i. i.value) result ≡ placed an_immediate (shown word.entry) (unwrap_or (integer_in (shown word.entry)) (pos 0)) }
+{
+    let number = integer_of(word).ok_or(Question::Form)?;
+    immediate_from(number).ok_or(Question::Range)
+}
+
+/// A number of 32 bits.
+pub(crate) fn read_number(word: Word) -> Result<u32, Question>
+    ensures { result ≡ placed a_number (shown word.entry) (unwrap_or (natural_in (shown word.entry)) 0) }
+{
+    let number = natural_of(word).ok_or(Question::Form)?;
+    u32::try_from(number).ok().ok_or(Question::Range)
+}
+
+/// An address.
+pub(crate) fn read_address(word: Word) -> Result<Address, Question>
+    ensures { result_map (λ a. a.value) result ≡ placed an_address (shown word.entry) (unwrap_or (natural_in (shown word.entry)) 0) }
+{
+    let number = read_number(word)?;
+    Address::new(number).ok_or(Question::Range)
+}
+
+/// An address or a label.
+pub(crate) fn read_target<'a>(word: Word<'a>) -> Result<Target<'a>, Question>
+    ensures { result_map aimed result ≡ placed a_target (shown word.entry) (unwrap_or (natural_in (shown word.entry)) 0, label_in (shown word.entry)) }
+{
+    if let Some(label) = label_of(word) {
+        return Ok(Target::Label(label));
     }
+    let address = read_address(word)?;
+    Ok(Target::Address(address))
 }
 
-/// A number as an immediate.
-pub(crate) fn immediate_from(number: i64) -> Option<Immediate>
-    ensures { option_map (λ i. i.value) result ≡ fitting 20 number }
+/// A quoted word.
+pub(crate) fn read_string<'a>(word: Word<'a>) -> Result<&'a [u8], Question>
+    ensures { result_map (λ s. characters s.now) result ≡ placed a_string (shown word.entry) (Some (unwrap_or (characters_in (shown word.entry)) [])) }
 {
-    if number >= -524_288 && number <= 524_287 {
-        Immediate::new(number as i32)
+    let Word::Text(part) = word else {
+        return Err(Question::Form);
+    };
+    if count_characters(part).is_some() {
+        Ok(part)
     } else {
-        None
-    }
-}
-
-/// A number below a bound.
-pub(crate) fn number_under(bound: u64, number: u64) -> Option<u32>
-    requires { bound ≤ 2 ^ 32 }
-    ensures { result ≡ under bound number }
-{
-    if number < bound {
-        Some(number as u32)
-    } else {
-        None
-    }
-}
-
-/// A number as an address.
-pub(crate) fn address_from(number: u64) -> Option<Address>
-    ensures { option_map (λ a. a.value) result ≡ under (2 ^ 20) number }
-{
-    if number < 1_048_576 {
-        Address::new(number as u32)
-    } else {
-        None
+        Err(Question::Form)
     }
 }

@@ -1,14 +1,15 @@
 //! The first pass: every line is asked its questions, and the labels get their addresses.
 
-ghost use Rattle.std.specs.Prelude.{◌≡◌, ℕ, ◌+◌, ◌<◌, ◌≤◌, true, [], drop, is_some, IfOk};
-ghost use Rattle.bounded.specs.Held.{entries, room};
+ghost use Rattle.std.specs.Prelude.{◌≡◌, ◌<◌, ◌≤◌, true, [], is_some};
+ghost use Rattle.bounded.specs.Held.{entries, room, KeepsRest};
 ghost use Rattle.lexer.specs.Text.{lines_of};
 ghost use Rattle.assembler.specs.Assembled.{entered, outcome, run_from, fresh};
 
 use crate::judge::judge;
 use crate::label::Label;
 use crate::progress::Progress;
-use crate::question::{Origin, Refusal};
+use crate::question::Refusal;
+use crate::symbols::Symbols;
 use bounded::list::BoundedList;
 use lexer::lines::Lines;
 
@@ -18,8 +19,7 @@ fn enter(labels: &mut BoundedList<Label>, label: Option<Label>)
     ensures held { entries labels.new ≡ entered (entries labels.old) label }
     ensures room { room labels.new ≡ room labels.old }
     ensures grown { labels.old.len ≤ labels.new.len }
-    ensures past { drop labels.new.len labels.new.items.now ≡ drop labels.new.len labels.old.items.now }
-    ensures lender { labels.new.items.ghost_name ≡ labels.old.items.ghost_name }
+    ensures rest { KeepsRest labels.old labels.new }
 {
     if let Some(label) = label {
         let _ = labels.push(label);
@@ -29,25 +29,21 @@ fn enter(labels: &mut BoundedList<Label>, label: Option<Label>)
 /// Asks every line its questions, and fills the label list.
 pub(crate) fn first_pass(text: &[u8], labels: &mut BoundedList<Label>) -> Result<Progress, Refusal>
     ensures told { outcome result (entries labels.new) ≡ run_from text.now (room labels.old) [] fresh 1 0 (lines_of text.now) }
-    ensures few { IfOk result (λ p. p.code + p.pool ≤ 65536) }
     ensures room { room labels.new ≡ room labels.old }
-    ensures past { drop labels.new.len labels.new.items.now ≡ drop labels.new.len labels.old.items.now }
-    ensures lender { labels.new.items.ghost_name ≡ labels.old.items.ghost_name }
+    ensures rest { KeepsRest labels.old labels.new }
 {
     labels.clear();
     let mut progress = Progress::new();
-    let mut lines = Lines::new(text);
-    while let Some(line) = lines.next() {
-        match judge(text, labels.capacity(), labels.as_slice(), progress, line) {
-            Ok(judged) => {
-                enter(labels, judged.label);
-                progress = judged.progress;
-            }
-            Err(question) => return Err(Refusal {
-                question,
-                origin: Origin { line: line.number },
-            }),
-        }
+    for line in Lines::new(text) {
+        let symbols = Symbols {
+            text,
+            labels: labels.as_slice(),
+        };
+        let judged = judge(symbols, labels.capacity(), progress, line).map_err(
+            |question| Refusal::on_line(question, line.number),
+        )?;
+        enter(labels, judged.label);
+        progress = judged.progress;
     }
     Ok(progress)
 }

@@ -7,31 +7,31 @@ ghost use Rattle.assembler.specs.Questions.{number_of};
 #[derive(Clone, Copy)]
 pub enum Question {
     /// 1: has the text no more than 2,097,152 bytes, and none but tabs (9), line ends (10) and printing characters (32 to 126)?
-    Text,
+    Text = 1,
     /// 2: may the line's label have its name, which no earlier line gave?
-    Label,
+    Label = 2,
     /// 3: is the label list not yet full?
-    LabelRoom,
+    LabelRoom = 3,
     /// 4: does a waiting label get a command or constant before the next label or directive?
-    Waiting,
+    Waiting = 4,
     /// 5: is the word after the label a known one?
-    Name,
+    Name = 5,
     /// 6: does the statement stand where it may?
-    Order,
+    Order = 6,
     /// 7: is the number of operands right?
-    Count,
+    Count = 7,
     /// 8: does every operand have the shape that its place asks for?
-    Form,
+    Form = 8,
     /// 9: are all numbers within their limits?
-    Range,
+    Range = 9,
     /// 10: do the lines up to this one give no more than 65,536 words?
-    Words,
+    Words = 10,
     /// 11: does the text have an `end`?
-    End,
+    End = 11,
     /// 12: does every label in use have an entry?
-    Defined,
+    Defined = 12,
     /// 13: does the executable fit into the output?
-    Output,
+    Output = 13,
 }
 
 /// Where a text is refused: the number of a line, or 0 for the whole text.
@@ -47,25 +47,35 @@ pub struct Refusal {
     pub origin: Origin,
 }
 
+impl From<Question> for Refusal {
+    // no line is the cause
+    ghost from_gives = { λ question refusal. refusal ≡ record { question = question; origin = record { line = 0 } } };
+
+    fn from(question: Question) -> Refusal {
+        Refusal {
+            question,
+            origin: Origin { line: 0 },
+        }
+    }
+}
+
+impl Refusal {
+    /// The refusal of a line, by its number.
+    pub(crate) fn on_line(question: Question, line: usize) -> Refusal
+        ensures { result ≡ record { question = question; origin = record { line = line } } }
+    {
+        Refusal {
+            question,
+            origin: Origin { line },
+        }
+    }
+}
+
 impl Question {
     /// The number by which the refusal is reported.
     pub fn number(self) -> u8
         ensures { result ≡ number_of self }
     {
-        match self {
-            Question::Text => 1,
-            Question::Label => 2,
-            Question::LabelRoom => 3,
-            Question::Waiting => 4,
-            Question::Name => 5,
-            Question::Order => 6,
-            Question::Count => 7,
-            Question::Form => 8,
-            Question::Range => 9,
-            Question::Words => 10,
-            Question::End => 11,
-            Question::Defined => 12,
-            Question::Output => 13,
-        }
+        self as u8
     }
 }

@@ -1,241 +1,105 @@
 //! Reading the operands of a statement.
 
-ghost use Rattle.std.specs.Prelude.{◌≡◌, false, length};
+ghost use Rattle.std.specs.Prelude.{◌≡◌, false, length, IfOk};
+ghost use Rattle.std.specs.Option.{option_map};
+ghost use Rattle.isa.specs.Operands.{form_in, numbers_in};
 ghost use Rattle.isa.specs.Table.{form_of};
 ghost use Rattle.assembler.specs.Operands.{places_in, places_of};
-ghost use Rattle.assembler.specs.Reading.{operands_in};
-ghost use Rattle.assembler.specs.Statements.{told, read_form, read_counted, read_by};
+ghost use Rattle.assembler.specs.Reading.{operands_in, at_places, read_numbers, result_map};
+ghost use Rattle.assembler.specs.Statements.{told, read_counted, read_by};
 
-use crate::characters::count_characters;
 use crate::mnemonic::Mnemonic;
 use crate::operand::{
-    address_from, immediate_from, integer_of, label_of, modifier_from, natural_of, next_operand,
-    number_under, register_of,
+    next_operand, read_address, read_immediate, read_modifier, read_number, read_register,
+    read_string, read_target,
 };
 use crate::question::Question;
 use crate::statement::Statement;
-use isa::address::Address;
+use crate::target::Target;
 use isa::command::Command;
 use isa::form::Form;
 use isa::opcode::Opcode;
 use isa::operands::Operands;
-use lexer::word::Word;
 use lexer::words::Words;
 
-/// Register, register, modifier.
-fn read_rr<'a>(opcode: Opcode, words: &mut Words<'a>) -> Result<Statement<'a>, Question>
-    requires fresh { words.old.fresh ≡ false }
-    requires count { length (operands_in words.old) ≡ 3 }
-    requires form { form_of opcode ≡ Form.Rr }
-    ensures { told result ≡ read_form opcode Form.Rr (operands_in words.old) }
+/// The operands of a form, with the label that stands for an address.
+fn read_operands<'a>(
+    form: Form,
+    words: &mut Words<'a>,
+) -> Result<(Operands, Option<&'a [u8]>), Question>
+    ensures value { result_map (λ x. (numbers_in x.0, option_map (λ l. l.now) x.1)) result ≡ read_numbers form (at_places (length (places_in form)) (operands_in words.old)) }
+    ensures fits { IfOk result (λ x. form_in x.0 ≡ form) }
 {
-    let Some(first) = register_of(next_operand(words)) else {
-        return Err(Question::Form);
-    };
-    let Some(source) = register_of(next_operand(words)) else {
-        return Err(Question::Form);
-    };
-    let Some(number) = integer_of(next_operand(words)) else {
-        return Err(Question::Form);
-    };
-    let Some(modifier) = modifier_from(number) else {
-        return Err(Question::Range);
-    };
-    let command = Command {
-        opcode,
-        operands: Operands::Rr {
-            first,
-            source,
-            modifier,
-        },
-    };
-    Ok(Statement::Code(command.encode()))
-}
-
-/// Register, immediate.
-fn read_ri<'a>(opcode: Opcode, words: &mut Words<'a>) -> Result<Statement<'a>, Question>
-    requires fresh { words.old.fresh ≡ false }
-    requires count { length (operands_in words.old) ≡ 2 }
-    requires form { form_of opcode ≡ Form.Ri }
-    ensures { told result ≡ read_form opcode Form.Ri (operands_in words.old) }
-{
-    let Some(first) = register_of(next_operand(words)) else {
-        return Err(Question::Form);
-    };
-    let Some(number) = integer_of(next_operand(words)) else {
-        return Err(Question::Form);
-    };
-    let Some(immediate) = immediate_from(number) else {
-        return Err(Question::Range);
-    };
-    let command = Command {
-        opcode,
-        operands: Operands::Ri { first, immediate },
-    };
-    Ok(Statement::Code(command.encode()))
-}
-
-/// Register, address or label.
-fn read_rm<'a>(opcode: Opcode, words: &mut Words<'a>) -> Result<Statement<'a>, Question>
-    requires fresh { words.old.fresh ≡ false }
-    requires count { length (operands_in words.old) ≡ 2 }
-    requires form { form_of opcode ≡ Form.Rm }
-    ensures { told result ≡ read_form opcode Form.Rm (operands_in words.old) }
-{
-    let Some(first) = register_of(next_operand(words)) else {
-        return Err(Question::Form);
-    };
-    let target = next_operand(words);
-    if let Some(label) = label_of(target) {
-        let command = Command {
-            opcode,
-            operands: Operands::Rm {
+    match form {
+        Form::Rr => {
+            let first = read_register(next_operand(words))?;
+            let source = read_register(next_operand(words))?;
+            let modifier = read_modifier(next_operand(words))?;
+            let operands = Operands::Rr {
                 first,
-                address: Address { value: 0 },
-            },
-        };
-        return Ok(Statement::Labelled {
-            word: command.encode(),
-            label,
-        });
+                source,
+                modifier,
+            };
+            Ok((operands, None))
+        }
+        Form::Ri => {
+            let first = read_register(next_operand(words))?;
+            let immediate = read_immediate(next_operand(words))?;
+            Ok((Operands::Ri { first, immediate }, None))
+        }
+        Form::Rm => {
+            let first = read_register(next_operand(words))?;
+            let target = read_target(next_operand(words))?;
+            let address = target.address();
+            Ok((Operands::Rm { first, address }, target.label()))
+        }
+        Form::J => {
+            let target = read_target(next_operand(words))?;
+            let address = target.address();
+            Ok((Operands::J { address }, target.label()))
+        }
     }
-    let Some(number) = natural_of(target) else {
-        return Err(Question::Form);
-    };
-    let Some(address) = address_from(number) else {
-        return Err(Question::Range);
-    };
-    let command = Command {
-        opcode,
-        operands: Operands::Rm { first, address },
-    };
-    Ok(Statement::Code(command.encode()))
 }
 
-/// Address or label.
-fn read_j<'a>(opcode: Opcode, words: &mut Words<'a>) -> Result<Statement<'a>, Question>
-    requires fresh { words.old.fresh ≡ false }
-    requires count { length (operands_in words.old) ≡ 1 }
-    requires form { form_of opcode ≡ Form.J }
-    ensures { told result ≡ read_form opcode Form.J (operands_in words.old) }
-{
-    let target = next_operand(words);
-    if let Some(label) = label_of(target) {
-        let command = Command {
-            opcode,
-            operands: Operands::J {
-                address: Address { value: 0 },
-            },
-        };
-        return Ok(Statement::Labelled {
-            word: command.encode(),
-            label,
-        });
-    }
-    let Some(number) = natural_of(target) else {
-        return Err(Question::Form);
-    };
-    let Some(address) = address_from(number) else {
-        return Err(Question::Range);
-    };
-    let command = Command {
-        opcode,
-        operands: Operands::J { address },
-    };
-    Ok(Statement::Code(command.encode()))
-}
-
-/// The operands of a command.
+/// A command, with its operands.
 fn read_command<'a>(opcode: Opcode, words: &mut Words<'a>) -> Result<Statement<'a>, Question>
-    requires fresh { words.old.fresh ≡ false }
-    requires count { length (operands_in words.old) ≡ length (places_in (form_of opcode)) }
-    ensures { told result ≡ read_form opcode (form_of opcode) (operands_in words.old) }
+    ensures { told result ≡ read_counted (Mnemonic.Command opcode) (at_places (length (places_in (form_of opcode))) (operands_in words.old)) }
 {
-    match opcode.form() {
-        Form::Rr => read_rr(opcode, words),
-        Form::Ri => read_ri(opcode, words),
-        Form::Rm => read_rm(opcode, words),
-        Form::J => read_j(opcode, words),
+    let (operands, label) = read_operands(opcode.form(), words)?;
+    let word = Command { opcode, operands }.encode();
+    match label {
+        Some(label) => Ok(Statement::Labelled { word, label }),
+        None => Ok(Statement::Code(word)),
     }
 }
 
-/// A number of 32 bits, for `word`.
-fn read_word<'a>(words: &mut Words<'a>) -> Result<Statement<'a>, Question>
-    requires fresh { words.old.fresh ≡ false }
-    requires count { length (operands_in words.old) ≡ 1 }
-    ensures { told result ≡ read_counted Mnemonic.Word (operands_in words.old) }
+/// The statement of a mnemonic and as many operands as it takes: questions 8 and 9.
+fn read_counted<'a>(mnemonic: Mnemonic, words: &mut Words<'a>) -> Result<Statement<'a>, Question>
+    ensures { told result ≡ read_counted mnemonic (at_places (length (places_of mnemonic)) (operands_in words.old)) }
 {
-    let Some(number) = natural_of(next_operand(words)) else {
-        return Err(Question::Form);
-    };
-    let Some(word) = number_under(1 << 32, number) else {
-        return Err(Question::Range);
-    };
-    Ok(Statement::Code(word))
-}
-
-/// A number of 32 bits, for `uint32`.
-fn read_uint32<'a>(words: &mut Words<'a>) -> Result<Statement<'a>, Question>
-    requires fresh { words.old.fresh ≡ false }
-    requires count { length (operands_in words.old) ≡ 1 }
-    ensures { told result ≡ read_counted Mnemonic.Uint32 (operands_in words.old) }
-{
-    let Some(number) = natural_of(next_operand(words)) else {
-        return Err(Question::Form);
-    };
-    let Some(word) = number_under(1 << 32, number) else {
-        return Err(Question::Range);
-    };
-    Ok(Statement::Constant(word))
-}
-
-/// A quoted word.
-fn read_text<'a>(words: &mut Words<'a>) -> Result<Statement<'a>, Question>
-    requires fresh { words.old.fresh ≡ false }
-    requires count { length (operands_in words.old) ≡ 1 }
-    ensures { told result ≡ read_counted Mnemonic.Text (operands_in words.old) }
-{
-    let Word::Text(part) = next_operand(words) else {
-        return Err(Question::Form);
-    };
-    let Some(_) = count_characters(part) else {
-        return Err(Question::Form);
-    };
-    Ok(Statement::Text(part))
-}
-
-/// An address, for `stack`.
-fn read_stack<'a>(words: &mut Words<'a>) -> Result<Statement<'a>, Question>
-    requires fresh { words.old.fresh ≡ false }
-    requires count { length (operands_in words.old) ≡ 1 }
-    ensures { told result ≡ read_counted Mnemonic.Stack (operands_in words.old) }
-{
-    let Some(number) = natural_of(next_operand(words)) else {
-        return Err(Question::Form);
-    };
-    let Some(address) = number_under(1_048_576, number) else {
-        return Err(Question::Range);
-    };
-    Ok(Statement::Stack(address))
-}
-
-/// An address or a label, for `end`.
-fn read_end<'a>(words: &mut Words<'a>) -> Result<Statement<'a>, Question>
-    requires fresh { words.old.fresh ≡ false }
-    requires count { length (operands_in words.old) ≡ 1 }
-    ensures { told result ≡ read_counted Mnemonic.End (operands_in words.old) }
-{
-    let target = next_operand(words);
-    if let Some(label) = label_of(target) {
-        return Ok(Statement::EndAt(label));
+    match mnemonic {
+        Mnemonic::Command(opcode) => read_command(opcode, words),
+        Mnemonic::Word => {
+            let word = read_number(next_operand(words))?;
+            Ok(Statement::Code(word))
+        }
+        Mnemonic::Uint32 => {
+            let number = read_number(next_operand(words))?;
+            Ok(Statement::Constant(number))
+        }
+        Mnemonic::Text => {
+            let part = read_string(next_operand(words))?;
+            Ok(Statement::Text(part))
+        }
+        Mnemonic::Stack => {
+            let address = read_address(next_operand(words))?;
+            Ok(Statement::Stack(address.value))
+        }
+        Mnemonic::End => match read_target(next_operand(words))? {
+            Target::Address(address) => Ok(Statement::End(address.value)),
+            Target::Label(label) => Ok(Statement::EndAt(label)),
+        },
     }
-    let Some(number) = natural_of(target) else {
-        return Err(Question::Form);
-    };
-    let Some(address) = number_under(1_048_576, number) else {
-        return Err(Question::Range);
-    };
-    Ok(Statement::End(address))
 }
 
 /// How many operands a mnemonic takes.
@@ -257,18 +121,10 @@ pub(crate) fn read_statement<'a>(
     mnemonic: Mnemonic,
     words: &mut Words<'a>,
 ) -> Result<Statement<'a>, Question>
-    requires { words.old.fresh ≡ false }
     ensures { told result ≡ read_by mnemonic (operands_in words.old) }
 {
-    if words.count() != operand_count(mnemonic) {
+    if (*words).count() != operand_count(mnemonic) {
         return Err(Question::Count);
     }
-    match mnemonic {
-        Mnemonic::Command(opcode) => read_command(opcode, words),
-        Mnemonic::Word => read_word(words),
-        Mnemonic::Uint32 => read_uint32(words),
-        Mnemonic::Text => read_text(words),
-        Mnemonic::Stack => read_stack(words),
-        Mnemonic::End => read_end(words),
-    }
+    read_counted(mnemonic, words)
 }

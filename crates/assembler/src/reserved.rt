@@ -1,7 +1,8 @@
 //! Which words may be labels.
 
 ghost use Rattle.std.specs.Prelude.{◌≡◌};
-ghost use Rattle.assembler.specs.Labels.{label_byte, all_label_bytes, lawful, reserved, usable};
+ghost use Rattle.std.specs.List.{list_all};
+ghost use Rattle.assembler.specs.Labels.{label_byte, lawful, reserved, usable};
 
 use crate::mnemonic::Mnemonic;
 use lexer::word::register_number;
@@ -10,22 +11,14 @@ use lexer::word::register_number;
 fn is_label_byte(b: u8) -> bool
     ensures { result ≡ label_byte b }
 {
-    match b {
-        b'a'..=b'z' | b'0'..=b'9' | b'_' | b'.' => true,
-        _ => false,
-    }
+    matches!(b, b'a'..=b'z' | b'0'..=b'9' | b'_' | b'.')
 }
 
 /// Whether all bytes of a name are such.
 fn has_label_bytes(name: &[u8]) -> bool
-    ensures { result ≡ all_label_bytes name.now }
+    ensures { result ≡ list_all label_byte name.now }
 {
-    for b in name {
-        if !is_label_byte(*b) {
-            return false;
-        }
-    }
-    true
+    name.iter().all(|b| is_label_byte(*b))
 }
 
 /// Whether a name is lawful for a label.
@@ -33,8 +26,7 @@ fn is_lawful(name: &[u8]) -> bool
     ensures { result ≡ lawful name.now }
 {
     match name {
-        [] => false,
-        [b'0'..=b'9', ..] => false,
+        [] | [b'0'..=b'9', ..] => false,
         _ => has_label_bytes(name),
     }
 }

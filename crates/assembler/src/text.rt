@@ -7,19 +7,14 @@ ghost use Rattle.assembler.specs.Assembled.{text_byte, all_text_bytes, right_tex
 fn is_text_byte(byte: u8) -> bool
     ensures { result ≡ text_byte byte }
 {
-    byte == 9 || byte == 10 || (byte >= 32 && byte <= 126)
+    matches!(byte, 9 | 10 | 32..=126)
 }
 
 /// Whether all bytes may stand in a text.
 fn are_text_bytes(text: &[u8]) -> bool
     ensures { result ≡ all_text_bytes text.now }
 {
-    for b in text {
-        if !is_text_byte(*b) {
-            return false;
-        }
-    }
-    true
+    text.iter().all(|byte| is_text_byte(*byte))
 }
 
 /// Question 1: the length and the bytes of a text.

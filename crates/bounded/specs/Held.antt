@@ -1,5 +1,5 @@
 -- What a bounded list holds, and what an append makes of it.
-use Rattle.std.specs.Prelude.{ℕ, ◌+◌, cond, List, [], ◌∷◌, ◌++◌, length, take, Ok, Err, Result, nat_lt, slice_set}
+use Rattle.std.specs.Prelude.{◌≡◌, ℕ, ◌+◌, cond, List, [], ◌∷◌, ◌++◌, length, take, drop, Ok, Err, Result, nat_lt, slice_set}
 use Rattle.bounded.specs.declared.list.BoundedList.{BoundedList}
 use Rattle.bounded.specs.declared.list.Full.{Full}
 
@@ -26,3 +26,8 @@ items_after held items x = cond (nat_lt (length held) (length items)) (slice_set
 -- the length field after an append: one more, or the same where the list is full
 abbrev pub length_after : ℕ → ℕ → ℕ
 length_after n most = cond (nat_lt n most) (n + 1) n
+
+-- the items past the last entry of a list are as they were, and so is the slice that is lent
+pub record KeepsRest {X : Type 0} (before after : BoundedList X) : Type 0 where
+  pub past : drop after.len after.items.now ≡ drop after.len before.items.now
+  pub lender : after.items.ghost_name ≡ before.items.ghost_name

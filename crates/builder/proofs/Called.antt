@@ -1,5 +1,5 @@
 -- What the call answers and leaves.
-use Rattle.std.proofs.Common.{◌≡◌, ℕ, ◌+◌, ◌-◌, ◌*◌, ◌/◌, ◌≤◌, List, length, take, drop, Ok, Err, Result, sym, refl, ap, ◌∙◌, arith, length-append}
+use Rattle.std.proofs.Common.{◌≡◌, ℕ, ◌+◌, ◌*◌, ◌/◌, ◌≤◌, List, length, take, drop, Ok, Err, Result, sym, refl, ap, ◌∙◌, arith, length-append}
 use Rattle.std.specs.List.{flat_map}
 use Rattle.std.proofs.lemmas.List.{take_at}
 use Rattle.executable.specs.Check.{Parts, checked}
@@ -34,10 +34,6 @@ stands_by t (bad q k ls) out result n s told is = let z : ◌≡◌ {A = ℕ} 0 
 
 pub stands : (t : List ℕ) (cap : ℕ) (out result : List ℕ) (n : ℕ) → Ok n ≡ answer_of (assembled t cap (length out)) → result ≡ output_of (assembled t cap (length out)) out → Stands t result n
 stands t cap out result n told is = stands_by t (assembled t cap (length out)) out result n (sound t cap (length out)) told is
-
--- the bytes that the check gets
-pub front : (n : ℕ) (xs : List ℕ) → checked (take (n - 0) xs) ≡ checked (take n xs)
-front n xs = let same : n - 0 ≡ n = omega arith in ap (λ k. checked (take k xs)) same
 
 pub refused_same : (t : List ℕ) (q : Refusal) (r : Result ℕ Refusal) → Err q ≡ r → Err q ≡ summary_of t r
 refused_same t q r e = ap (summary_of t) e

@@ -5,7 +5,7 @@ use Rattle.lexer.specs.Text.{lines_of, before, blanks}
 use Rattle.assembler.specs.Assembled.{Outcome, passed, refused, on_line, run_from, fresh}
 use Rattle.assembler.specs.Questions.{asked, first_no, line_questions, refusal_in, labels_after, after}
 use Rattle.assembler.specs.declared.label.Label.{Label}
-use Rattle.assembler.specs.declared.progress.Progress.{Progress}
+use Rattle.assembler.specs.Progress.{Progress}
 use Rattle.assembler.specs.declared.question.Question.{Question}
 use Rattle.assembler.specs.declared.question.Question.TheVariants as question
 use Rattle.builder.specs.Built.{text_labels, labels_before, labels_refused}

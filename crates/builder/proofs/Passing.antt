@@ -6,7 +6,7 @@ use Rattle.assembler.specs.Operands.{right_count, right_form, right_range}
 use Rattle.assembler.specs.Questions.{asked, first_no, refusal_in, of_operands, in_order, code_words, data_words, after}
 use Rattle.assembler.specs.declared.label.Label.{Label}
 use Rattle.assembler.specs.declared.mnemonic.Mnemonic.{Mnemonic}
-use Rattle.assembler.specs.declared.progress.Progress.{Progress}
+use Rattle.assembler.specs.Progress.{Progress}
 use Rattle.assembler.specs.declared.question.Question.{Question}
 use Rattle.assembler.specs.declared.question.Question.TheVariants as question
 use Rattle.builder.specs.Source.{count_by}

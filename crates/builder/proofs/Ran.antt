@@ -11,7 +11,7 @@ use Rattle.assembler.specs.Questions.{is, orderly, has_words, refusal_in, code_w
 use Rattle.assembler.specs.declared.label.Label.{Label}
 use Rattle.assembler.specs.declared.mnemonic.Mnemonic.{Mnemonic}
 use Rattle.assembler.specs.declared.mnemonic.Mnemonic.TheVariants.{Command, Word, Uint32, Text, Stack, End}
-use Rattle.assembler.specs.declared.progress.Progress.{Progress}
+use Rattle.assembler.specs.Progress.{Progress}
 use Rattle.assembler.specs.declared.question.Question.{Question}
 use Rattle.builder.specs.Source.{line_parts, code_by, constants_by, stack_by, start_by, count_on, line_code, line_constants, code_in, constants_in, stack_in, start_in, labels_in}
 use Rattle.builder.proofs.Passing.{Passing, passing}

@@ -4,7 +4,9 @@ use Rattle.std.specs.Str.{bytes_eq}
 use Rattle.std.proofs.lemmas.Bool.{and_parts, cond_both, ltb-true}
 use Rattle.lexer.specs.Shown.{Shown}
 use Rattle.assembler.specs.Emit.{address_of}
-use Rattle.assembler.specs.Labels.{name_in, address_in}
+use Rattle.assembler.specs.Labels.{name_in}
+use Rattle.std.specs.List.{find}
+use Rattle.std.specs.Option.{option_map}
 use Rattle.assembler.specs.Operands.{Place, an_address, a_target, each, in_range, is_below, label_in, natural_in, operand, natural_at}
 use Rattle.assembler.specs.declared.label.Label.{Label}
 use Rattle.assembler.specs.declared.mnemonic.Mnemonic.{Mnemonic}
@@ -23,7 +25,7 @@ low_entry p k (Some w) xs h more = (h, more)
 
 address_low : (t w : List ℕ) (ls : List Label) → Low ls → address_of t ls w ≤ 65536
 address_low t w [] h = omega arith
-address_low t w (x ∷ xs) h = cond_both (bytes_eq (name_in t x) w) (Some x.address) (address_in t w xs) (λ o. unwrap_or o 0 ≤ 65536) (λ e. h.0) (λ e. address_low t w xs h.1)
+address_low t w (x ∷ xs) h = cond_both (bytes_eq (name_in t x) w) (Some x) (find (λ (l : Label). bytes_eq (name_in t l) w) xs) (λ (o : Option Label). unwrap_or (option_map (λ (l : Label). l.address) o) 0 ≤ 65536) (λ e. h.0) (λ e. address_low t w xs h.1)
 
 below : (o : Option ℕ) → is_below (2 ^ 20) o ≡ true → unwrap_or o 0 < 1048576
 below None e = omega arith

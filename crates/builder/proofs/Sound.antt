@@ -6,7 +6,7 @@ use Rattle.lexer.specs.Text.{lines_of}
 use Rattle.assembler.specs.Assembled.{Outcome, passed, refused, run_from, fresh, Assembled, good, bad, right_text, room_for, executable_in, lastly, after_lines, assembled}
 use Rattle.assembler.specs.Emit.{words_from, lost_from, start_from, executable_of}
 use Rattle.assembler.specs.declared.label.Label.{Label}
-use Rattle.assembler.specs.declared.progress.Progress.{Progress}
+use Rattle.assembler.specs.Progress.{Progress}
 use Rattle.assembler.specs.declared.question.Question.TheVariants as question
 use Rattle.builder.specs.Built.{text_labels, text_parts, labels_refused}
 use Rattle.builder.specs.Source.{code_in, constants_in, stack_in, start_in}

@@ -1,7 +1,7 @@
 //! Building an executable from a text.
 
-ghost use Rattle.std.specs.Prelude.{◌≡◌, length, take, drop, IfOk, Ok};
-ghost use Rattle.bounded.specs.Held.{entries, room};
+ghost use Rattle.std.specs.Prelude.{◌≡◌, length, take, IfOk, Ok};
+ghost use Rattle.bounded.specs.Held.{entries, room, KeepsRest};
 ghost use Rattle.executable.specs.Check.{contents, checked};
 ghost use Rattle.assembler.specs.Assembled.{assembled, answer_of, output_of};
 ghost use Rattle.builder.specs.Built.{text_parts, numbers_of, summary_of, labels_left};
@@ -38,14 +38,10 @@ pub fn build(
     ensures labels { entries labels.new ≡ labels_left text.now (answer_of (assembled text.now (room labels.old) (length out.old))) }
     ensures output { out.new ≡ output_of (assembled text.now (room labels.old) (length out.old)) out.old }
     ensures accepted { IfOk result (λ s. checked (take s.length out.new) ≡ Ok (text_parts text.now)) }
-    ensures past { drop labels.new.len labels.new.items.now ≡ drop labels.new.len labels.old.items.now }
-    ensures lender { labels.new.items.ghost_name ≡ labels.old.items.ghost_name }
+    ensures rest { KeepsRest labels.old labels.new }
 {
-    let length = match assemble(text, labels, out) {
-        Ok(length) => length,
-        Err(refusal) => return Err(refusal),
-    };
-    match check(&out[0..length]) {
+    let length = assemble(text, labels, out)?;
+    match check(&out[..length]) {
         Ok(executable) => Ok(summarize(length, executable)),
         Err(_) => unreachable(),
     }

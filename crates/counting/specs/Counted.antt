@@ -1,5 +1,5 @@
 -- Readings that are made by counting.
-use Rattle.std.specs.Prelude.{◌≡◌, ℕ, zero, suc, ◌+◌, ◌-◌, ◌^◌, ◌<◌, false, List, [], ◌∷◌, Some, None, Option}
+use Rattle.std.specs.Prelude.{ℕ, zero, suc, ◌+◌, ◌-◌, false, List, [], ◌∷◌}
 use Rattle.host.specs.declared.item.Item.{Item}
 use Rattle.host.specs.declared.item.Item.TheVariants.{Number}
 use Rattle.host.specs.Meaning.{Meaning}
@@ -8,11 +8,6 @@ use Rattle.host.specs.Meaning.{Meaning}
 abbrev pub numbers : ℕ → ℕ → List Item
 numbers zero n = []
 numbers (suc k) n = Number n ∷ numbers k (n + 1)
-
--- the first of the numbers from one up to another, below the last of 32 bits, and then those that follow it; none where there are no numbers
-abbrev pub FirstNumber : ℕ → ℕ → Option ℕ → Type 0
-FirstNumber next end None = numbers (end - next) next ≡ []
-FirstNumber next end (Some n) = (n + 1 < 2 ^ 32) × (numbers (end - next) next ≡ Number n ∷ numbers (end - (n + 1)) (n + 1))
 
 -- a new counting host: the numbers from one up to, and without, another, which end clean; nothing written, and 16 writes left
 abbrev pub new_counting : ℕ → ℕ → Meaning

@@ -1,12 +1,13 @@
 //! The calls of the counting host.
 
-ghost use Rattle.std.specs.Prelude.{◌≡◌, ◌+◌, ◌<◌, [], ◌∷◌, ◌++◌, take};
+ghost use Rattle.std.specs.Prelude.{◌≡◌, []};
 // cited by the clauses `first` of the trait
 ghost use Rattle.host.specs.Questions.{OnlyFirstNo, OnlyNoWriteLeft};
-ghost use Rattle.counting.specs.Counted.{new_counting, FirstNumber};
-ghost use Rattle.counting.specs.CountingMeaning.{counting_meaning, SameBut};
+ghost use Rattle.counting.specs.Counted.{new_counting};
+ghost use Rattle.counting.specs.CountingMeaning.{counting_meaning};
 
 use crate::Counting;
+use arrayvec::ArrayVec;
 use host::host::Host;
 use host::item::{Item, Kind};
 use host::refusal::Refusal;
@@ -17,10 +18,8 @@ impl Counting {
         ensures { counting_meaning result ≡ new_counting next end }
     {
         Counting {
-            next,
-            end,
-            results: [Item::Number(0); 16],
-            count: 0,
+            numbers: next..end,
+            results: ArrayVec::new(),
         }
     }
 
@@ -28,28 +27,7 @@ impl Counting {
     pub fn written(&self) -> &[Item]
         ensures { result.now ≡ (counting_meaning self.now).written }
     {
-        &self.results[0..self.count]
-    }
-
-    /// The number that waits first, if one does.
-    fn first(&self) -> Option<u32>
-        ensures { FirstNumber self.now.next self.now.end result }
-    {
-        if self.next < self.end {
-            Some(self.next)
-        } else {
-            None
-        }
-    }
-
-    /// Stores an item past those that were written.
-    fn store(&mut self, item: Item)
-        requires { self.old.count < 16 }
-        ensures results { take (self.old.count + 1) self.new.results ≡ take self.old.count self.old.results ++ item ∷ [] }
-        ensures rest { SameBut self.old self.new }
-    {
-        let place = self.count;
-        self.results[place] = item;
+        self.results.as_slice()
     }
 }
 
@@ -58,24 +36,22 @@ impl Host for Counting {
 
     ghost roots = { λ _. [] };
 
+    #[tactic(auto, using(crate::proofs::Numbered::numbers_more))]
     fn get(&mut self, kind: Kind) -> Result<Item, Refusal> {
-        let Some(number) = self.first() else {
-            return Err(Refusal::NothingWaits);
-        };
-        let item = Item::Number(number);
+        let mut later = self.numbers.start..self.numbers.end;
+        let item = Item::Number(later.next().ok_or(Refusal::NothingWaits)?);
         if !item.is_kind(kind) {
             return Err(Refusal::OtherKind);
         }
-        self.next = number + 1;
+        self.numbers = later;
         Ok(item)
     }
 
     fn write(&mut self, item: Item) -> Result<(), Refusal> {
-        if self.count == 16 {
+        if self.results.is_full() {
             return Err(Refusal::NoWriteLeft);
         }
-        self.store(item);
-        self.count += 1;
+        self.results.push(item);
         Ok(())
     }
 }

@@ -2,18 +2,15 @@
 
 #![tactic(auto)]
 
-ghost use Rattle.std.specs.Prelude.{◌≤◌};
-
+use arrayvec::ArrayVec;
 use host::item::Item;
+use std::ops::Range;
 
 pub mod calls;
 
-/// What waits are the numbers from `next` up to, and without, `end`; the first `count` results are what was written.
+/// What waits are the numbers of a range; the results are what was written.
 #[derive(Drop)]
 pub struct Counting {
-    next: u32,
-    end: u32,
-    results: [Item; 16],
-    count: usize,
-    ghost within: { count ≤ 16 },
+    numbers: Range<u32>,
+    results: ArrayVec<Item, 16>,
 }

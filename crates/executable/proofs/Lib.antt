@@ -1,3 +1,2 @@
 pub mod Accepted
-pub mod Filler
 pub mod Quads

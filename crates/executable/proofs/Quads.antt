@@ -1,8 +1,10 @@
 -- Numbers and words as they are read from bytes.
-use Rattle.std.proofs.Common.{◌≡◌, ℕ, zero, suc, ◌+◌, ◌*◌, ◌<◌, ◌≤◌, List, [], ◌∷◌, length, get_or, take, drop, Some, None, sym, refl, ap, ◌∙◌, arith}
+use Rattle.std.proofs.Common.{◌≡◌, ℕ, zero, suc, ◌+◌, ◌*◌, ◌/◌, ◌<◌, ◌≤◌, List, [], ◌∷◌, length, map, get_or, drop, option_map, refl, ap, ◌∙◌, arith}
 use Rattle.std.specs.List.{slice_get}
+use Rattle.std.specs.Simd.{first_chunks}
+use Rattle.std.proofs.lemmas.Option.{slice_get-map}
 use Rattle.std.proofs.lemmas.List.{drop_more}
-use Rattle.executable.specs.Bytes.{little_endian, number_at, words_of}
+use Rattle.executable.specs.Bytes.{little_endian, words_of}
 
 -- four bytes, one after another
 pub four : (bs : List ℕ) (i : ℕ) → i + 4 ≤ length bs → drop i bs ≡ get_or bs i 0 ∷ get_or bs (i + 1) 0 ∷ get_or bs (i + 2) 0 ∷ get_or bs (i + 3) 0 ∷ drop (i + 4) bs
@@ -15,24 +17,27 @@ four bs i h =
     ∙ ap (λ l. get_or bs i 0 ∷ get_or bs (i + 1) 0 ∷ l) (drop_more bs (i + 2) 0 (omega arith) ∙ ap (λ k. get_or bs (i + 2) 0 ∷ drop k bs) third)
     ∙ ap (λ l. get_or bs i 0 ∷ get_or bs (i + 1) 0 ∷ get_or bs (i + 2) 0 ∷ l) (drop_more bs (i + 3) 0 (omega arith) ∙ ap (λ k. get_or bs (i + 3) 0 ∷ drop k bs) fourth)
 
-pub number_is : (bs : List ℕ) (i : ℕ) → i + 4 ≤ length bs → number_at i bs ≡ get_or bs i 0 + get_or bs (i + 1) 0 * 256 + get_or bs (i + 2) 0 * 65536 + get_or bs (i + 3) 0 * 16777216
-number_is bs i h = ap (λ l. little_endian (take 4 l)) (four bs i h) ∙ omega arith
+-- the number that four bytes write
+abbrev pub quad : List ℕ → ℕ
+quad w = get_or w 0 0 + get_or w 1 0 * 256 + get_or w 2 0 * 65536 + get_or w 3 0 * 16777216
 
--- a word is the number at its place
-pub word_is : (i : ℕ) (bs : List ℕ) → 4 * i + 4 ≤ length bs → slice_get (words_of bs) i ≡ Some (number_at (4 * i) bs)
-word_is zero (a ∷ b ∷ c ∷ d ∷ rest) h = refl
-word_is (suc i) (a ∷ b ∷ c ∷ d ∷ rest) h =
-    let on : 4 * suc i ≡ suc (suc (suc (suc (4 * i)))) = omega arith in
-    word_is i rest (omega arith) ∙ ap (λ k. Some (number_at k (a ∷ b ∷ c ∷ d ∷ rest))) (sym on)
-word_is i (a ∷ b ∷ c ∷ []) h = absurd (omega arith)
-word_is i (a ∷ b ∷ []) h = absurd (omega arith)
-word_is i (a ∷ []) h = absurd (omega arith)
-word_is i [] h = absurd (omega arith)
+-- the words are the numbers that the whole chunks of four bytes write
+pub words_are : (bs : List ℕ) (n : ℕ) → n * 4 ≤ length bs → length bs < n * 4 + 4 → words_of bs ≡ map quad (first_chunks 4 n bs)
+words_are (a ∷ b ∷ c ∷ d ∷ rest) (suc n) h l =
+    let number : little_endian (a ∷ b ∷ c ∷ d ∷ []) ≡ quad (a ∷ b ∷ c ∷ d ∷ []) = omega arith in
+    ap (λ w. w ∷ words_of rest) number ∙ ap (λ ws. quad (a ∷ b ∷ c ∷ d ∷ []) ∷ ws) (words_are rest n (omega arith) (omega arith))
+words_are (a ∷ b ∷ c ∷ d ∷ rest) zero h l = absurd (omega arith)
+words_are (a ∷ b ∷ c ∷ []) zero h l = refl
+words_are (a ∷ b ∷ []) zero h l = refl
+words_are (a ∷ []) zero h l = refl
+words_are [] zero h l = refl
+words_are (a ∷ b ∷ c ∷ []) (suc n) h l = absurd (omega arith)
+words_are (a ∷ b ∷ []) (suc n) h l = absurd (omega arith)
+words_are (a ∷ []) (suc n) h l = absurd (omega arith)
+words_are [] (suc n) h l = absurd (omega arith)
 
-pub no_word : (i : ℕ) (bs : List ℕ) → length bs < 4 * i + 4 → slice_get (words_of bs) i ≡ None
-no_word zero (a ∷ b ∷ c ∷ d ∷ rest) h = absurd (omega arith)
-no_word (suc i) (a ∷ b ∷ c ∷ d ∷ rest) h = no_word i rest (omega arith)
-no_word i (a ∷ b ∷ c ∷ []) h = refl
-no_word i (a ∷ b ∷ []) h = refl
-no_word i (a ∷ []) h = refl
-no_word i [] h = refl
+-- a word is the number that its chunk writes
+pub word_is : (bs : List ℕ) (i : ℕ) → slice_get (words_of bs) i ≡ option_map quad (slice_get (first_chunks 4 (length bs / 4) bs) i)
+word_is bs i =
+    ap (λ ws. slice_get ws i) (words_are bs (length bs / 4) (omega arith) (omega arith))
+    ∙ slice_get-map quad (first_chunks 4 (length bs / 4) bs) i

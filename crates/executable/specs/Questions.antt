@@ -1,5 +1,6 @@
 -- The header of an executable, and the questions asked of its bytes.
-use Rattle.std.specs.Prelude.{ℕ, ◌+◌, ◌%◌, Bool, true, ◌&&◌, List, [], ◌∷◌, ◌++◌, length, take, drop, codes, ◌==◌, nat_le, nat_lt}
+use Rattle.std.specs.Prelude.{ℕ, ◌+◌, ◌%◌, Bool, ◌&&◌, List, [], ◌∷◌, ◌++◌, length, take, drop, codes, ◌==◌, nat_le, nat_lt}
+use Rattle.std.specs.List.{list_all}
 use Rattle.std.specs.Str.{bytes_eq}
 use Rattle.executable.specs.Bytes.{number_at}
 use Rattle.executable.specs.declared.refusal.Refusal.{Refusal}
@@ -31,8 +32,7 @@ processor bs = number_at 32 bs
 
 -- every byte is 0
 abbrev pub all_zero : List ℕ → Bool
-all_zero [] = true
-all_zero (b ∷ bs) = b == 0 && all_zero bs
+all_zero bs = list_all (λ b. b == 0) bs
 
 -- 20: does a whole header stand there, 512 bytes?
 abbrev pub long_enough : List ℕ → Bool

@@ -3,6 +3,9 @@
 #![tactic(auto)]
 
 ghost use Rattle.std.specs.Prelude.{◌≡◌, [], ◌∷◌};
+ghost use Rattle.isa.specs.Command.{instruction, encoded};
+ghost use Rattle.isa.specs.Operands.{form_in, numbers_in};
+ghost use Rattle.isa.specs.Table.{form_of};
 ghost use Rattle.figures.specs.Figures.{Figures};
 
 use isa::address::Address;
@@ -18,57 +21,41 @@ pub fn figures() -> [u32; 4]
     ensures words { result ≡ 0x2912FFFB ∷ 0x277FFFFF ∷ 0x34005599 ∷ 0 ∷ [] }
     ensures figures { Figures }
 {
-    [mov(), lc(), calli(), halt()]
+    let mov = word(
+        Opcode::Mov,
+        Operands::Rr {
+            first: Register { number: 1 },
+            source: Register { number: 2 },
+            modifier: -5,
+        },
+    );
+    let lc = word(
+        Opcode::Lc,
+        Operands::Ri {
+            first: Register { number: 7 },
+            immediate: Immediate { value: -1 },
+        },
+    );
+    let calli = word(
+        Opcode::Calli,
+        Operands::J {
+            address: Address { value: 21_913 },
+        },
+    );
+    let halt = word(
+        Opcode::Halt,
+        Operands::Ri {
+            first: Register { number: 0 },
+            immediate: Immediate { value: 0 },
+        },
+    );
+    [mov, lc, calli, halt]
 }
 
-fn mov() -> u32
-    ensures { result ≡ 0x2912FFFB }
+/// The word of a command.
+fn word(opcode: Opcode, operands: Operands) -> u32
+    requires { form_in operands ≡ form_of opcode }
+    ensures { result ≡ encoded (instruction opcode (numbers_in operands)) }
 {
-    let first = Register { number: 1 };
-    let source = Register { number: 2 };
-    let operands = Operands::Rr {
-        first,
-        source,
-        modifier: -5,
-    };
-    let command = Command {
-        opcode: Opcode::Mov,
-        operands,
-    };
-    command.encode()
-}
-
-fn lc() -> u32
-    ensures { result ≡ 0x277FFFFF }
-{
-    let first = Register { number: 7 };
-    let immediate = Immediate { value: -1 };
-    let command = Command {
-        opcode: Opcode::Lc,
-        operands: Operands::Ri { first, immediate },
-    };
-    command.encode()
-}
-
-fn calli() -> u32
-    ensures { result ≡ 0x34005599 }
-{
-    let address = Address { value: 21_913 };
-    let command = Command {
-        opcode: Opcode::Calli,
-        operands: Operands::J { address },
-    };
-    command.encode()
-}
-
-fn halt() -> u32
-    ensures { result ≡ 0 }
-{
-    let first = Register { number: 0 };
-    let immediate = Immediate { value: 0 };
-    let command = Command {
-        opcode: Opcode::Halt,
-        operands: Operands::Ri { first, immediate },
-    };
-    command.encode()
+    Command { opcode, operands }.encode()
 }

@@ -1,6 +1,3 @@
-pub mod Little
-pub mod SheetReads
-pub mod TapeBack
-pub mod TapeReads
-pub mod TapeWrites
-pub mod SheetWrites
+pub mod Appends
+pub mod Pushes
+pub mod SheetForms

@@ -1,10 +1,13 @@
+pub mod Codes
 pub mod Firsts
+pub mod Lent
+pub mod LentMeaning
 pub mod Meaning
 pub mod Numbers
 pub mod Questions
 pub mod Ranges
 pub mod Rooms
-pub mod SheetMeaning
+pub mod SheetLaws
 pub mod Sheets
-pub mod TapeMeaning
+pub mod TapeLaws
 pub mod Tapes

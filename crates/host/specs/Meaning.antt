@@ -15,6 +15,12 @@ pub record Meaning : Type 0 where
   pub left : ℕ
 
 -- the kind of an item
+abbrev pub kind_of : Item → Kind
+kind_of (Number n) = kind.Number
+kind_of (Real b) = kind.Real
+kind_of (Character c) = kind.Character
+
+-- whether an item is of a kind
 abbrev pub is_kind : Kind → Item → Bool
 is_kind kind.Number (Number n) = true
 is_kind kind.Number (Real b) = false

@@ -6,14 +6,6 @@ use Rattle.host.specs.declared.room.NoRoom.{NoRoom}
 abbrev pub room_for : ℕ → ℕ → ℕ → Bool
 room_for each room writes = nat_le writes 65536 && nat_le (each * writes) room
 
--- on a tape a write takes at most 9 bytes
-abbrev pub tape_room : ℕ → ℕ → Bool
-tape_room room writes = room_for 9 room writes
-
--- on a sheet a write takes one record
-abbrev pub sheet_room : ℕ → ℕ → Bool
-sheet_room room writes = room_for 1 room writes
-
 -- what the call answers
 abbrev pub room_answer : Bool → Result Unit NoRoom
 room_answer asked = cond asked (Ok tt) (Err (record {}))

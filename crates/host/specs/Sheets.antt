@@ -1,12 +1,12 @@
 -- The records of a sheet: kind 1 is a number, 2 a real, 3 a character.
-use Rattle.std.specs.Prelude.{◌≡◌, ℕ, ◌+◌, ◌^◌, Bool, true, false, cond, List, [], ◌∷◌, ◌++◌, map, Some, None, Option, ◌==◌, nat_lt, slice_set}
-use Rattle.host.specs.declared.first.First.{First}
-use Rattle.host.specs.declared.first.First.TheVariants.{Nothing, Spoiled, Found}
+use Rattle.std.specs.Prelude.{ℕ, ◌^◌, Bool, true, false, cond, List, [], ◌∷◌, Some, None, Option, Ok, Err, Result, ◌==◌, nat_lt}
+use Rattle.host.specs.declared.found.Found.{Found}
 use Rattle.host.specs.declared.item.Item.{Item}
 use Rattle.host.specs.declared.item.Item.TheVariants.{Number, Real, Character}
 use Rattle.host.specs.declared.record.Record.{Record}
-use Rattle.host.specs.Meaning.{Meaning}
-use Rattle.host.specs.Rooms.{sheet_room, writes_left}
+use Rattle.host.specs.declared.refusal.Refusal.{Refusal}
+use Rattle.host.specs.declared.refusal.Refusal.TheVariants.{NothingWaits, SpoiledEnd}
+use Rattle.host.specs.Codes.{Code}
 
 -- a value below a bound
 abbrev pub within : ℕ → (ℕ → Item) → ℕ → Option Item
@@ -40,13 +40,13 @@ spoiled [] = false
 spoiled (r ∷ rs) = spoils (item_of r) (spoiled rs)
 
 -- what stands first: an item takes one record
-abbrev pub first_by : Option Item → First
-first_by None = Spoiled
-first_by (Some x) = Found x 1
+abbrev pub first_by : Option Item → Result Found Refusal
+first_by None = Err SpoiledEnd
+first_by (Some x) = Ok (record { item = x; units = 1 })
 
 -- what stands first on a sheet
-abbrev pub first_on : List Record → First
-first_on [] = Nothing
+abbrev pub first_on : List Record → Result Found Refusal
+first_on [] = Err NothingWaits
 first_on (r ∷ rs) = first_by (item_of r)
 
 -- an item on a sheet
@@ -55,28 +55,6 @@ record_of (Number n) = record { kind = 1; value = n }
 record_of (Real n) = record { kind = 2; value = n }
 record_of (Character n) = record { kind = 3; value = n }
 
--- items on a sheet, one after the other
-abbrev pub sheet_of : List Item → List Record
-sheet_of xs = map record_of xs
-
--- a new sheet: the items on its input, nothing written, and the writes asked for where question 46 gets a yes
-abbrev pub new_sheet : List Record → ℕ → ℕ → Meaning
-new_sheet input room writes = record { waiting = items input; spoiled = spoiled input; written = []; left = writes_left (sheet_room room writes) writes }
-
--- a sheet reads as some items, with a clean end
-pub record ReadsAs (rs : List Record) (xs : List Item) : Type 0 where
-  pub items : items rs ≡ xs
-  pub clean : spoiled rs ≡ false
-
--- the lent records after an item is written at a place: only that record is another; all as they were where no write is left
-abbrev pub sheet_after : ℕ → ℕ → Item → List Record → List Record
-sheet_after left place item output = cond (nat_lt 0 left) (slice_set output place (record_of item)) output
-
--- the place after it: past the record, or the same where no write is left
-abbrev pub place_after : ℕ → ℕ → ℕ
-place_after left place = cond (nat_lt 0 left) (place + 1) place
-
--- one record more is the record of one more item, and the end is clean
-pub record Appended (before : List Record) (item : Item) (after : List Record) : Type 0 where
-  pub reads : items after ≡ items before ++ item ∷ []
-  pub clean : spoiled after ≡ false
+-- the code of a sheet: one record for each item
+abbrev pub sheet_code : Code Record
+sheet_code = record { items = items; spoiled = spoiled; coded = λ x. record_of x ∷ [] }

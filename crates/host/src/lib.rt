@@ -2,9 +2,11 @@
 
 #![tactic(auto)]
 
-mod first;
+pub mod code_unit;
+pub mod found;
 pub mod host;
 pub mod item;
+pub mod lent_host;
 pub mod record;
 pub mod refusal;
 pub mod room;

@@ -7,13 +7,13 @@ ghost use Rattle.host.specs.Numbers.{number_of};
 #[derive(Clone, Copy)]
 pub enum Refusal {
     /// 42: does an item wait, or is the end spoiled?
-    NothingWaits,
+    NothingWaits = 42,
     /// 43: does an item wait before the spoiled end?
-    SpoiledEnd,
+    SpoiledEnd = 43,
     /// 44: is the first item of the kind that is asked for?
-    OtherKind,
+    OtherKind = 44,
     /// 45: is a write left?
-    NoWriteLeft,
+    NoWriteLeft = 45,
 }
 
 impl Refusal {
@@ -21,11 +21,6 @@ impl Refusal {
     pub fn number(self) -> u8
         ensures { result ≡ number_of self }
     {
-        match self {
-            Refusal::NothingWaits => 42,
-            Refusal::SpoiledEnd => 43,
-            Refusal::OtherKind => 44,
-            Refusal::NoWriteLeft => 45,
-        }
+        self as u8
     }
 }

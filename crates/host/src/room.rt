@@ -1,9 +1,9 @@
 //! The room that is asked for before a host is made.
 
 ghost use Rattle.std.specs.Prelude.{◌≡◌, length};
-ghost use Rattle.host.specs.Rooms.{tape_room, sheet_room, room_answer};
+ghost use Rattle.host.specs.Rooms.{room_for, room_answer};
 
-use crate::record::Record;
+use crate::code_unit::CodeUnit;
 
 /// 46: are the writes at most 65,536, and has the output room for each?
 #[derive(Clone, Copy)]
@@ -18,22 +18,12 @@ impl NoRoom {
     }
 }
 
-/// Question 46 of a tape: 9 bytes for each write.
-pub fn ask_tape_room(output: &[u8], writes: usize) -> Result<(), NoRoom>
-    ensures { result ≡ room_answer (tape_room (length output.now) writes) }
+/// Question 46 of an output: as many units for each write as the longest item takes. That is 9 bytes of a tape, or one
+/// record of a sheet.
+pub fn ask_room<U: CodeUnit>(output: &[U], writes: usize) -> Result<(), NoRoom>
+    ensures { result ≡ room_answer (room_for U.MOST (length output.now) writes) }
 {
-    if writes <= 65_536 && 9 * writes <= output.len() {
-        Ok(())
-    } else {
-        Err(NoRoom)
-    }
-}
-
-/// Question 46 of a sheet: one record for each write.
-pub fn ask_sheet_room(output: &[Record], writes: usize) -> Result<(), NoRoom>
-    ensures { result ≡ room_answer (sheet_room (length output.now) writes) }
-{
-    if writes <= 65_536 && writes <= output.len() {
+    if writes <= 65_536 && usize::from(U::MOST) * writes <= output.len() {
         Ok(())
     } else {
         Err(NoRoom)

@@ -1,18 +1,67 @@
 //! The tape host: items as bytes.
 
-ghost use Rattle.std.specs.Prelude.{◌≡◌, ◌+◌, ◌*◌, ◌≤◌, false, length, take};
-ghost use Rattle.host.specs.Tapes.{spoiled};
+ghost use Rattle.std.specs.Prelude.{◌≡◌, ◌∷◌};
+ghost use Rattle.host.specs.Codes.{PushedIfRoom};
+ghost use Rattle.host.specs.Tapes.{first_on, tape_code};
+ghost use Rattle.host.specs.TapeLaws.{tape_laws};
 
-mod bytes;
-pub mod calls;
+use crate::code_unit::CodeUnit;
+use crate::found::Found;
+use crate::item::Item;
+use crate::lent_host::LentHost;
+use crate::refusal::Refusal;
+use bounded::list::{BoundedList, Full};
 
-/// A host over lent bytes: what waits is in `input`, and the first `at` bytes of `output` are what was written.
-#[derive(Drop)]
-pub struct Tape<'i, 'o> {
-    input: &'i [u8],
-    output: &'o mut [u8],
-    at: usize,
-    left: usize,
-    ghost room: { at + 9 * left ≤ length output.now },
-    ghost clean: { spoiled (take at output.now) ≡ false },
+/// A host over lent bytes.
+pub type Tape<'i, 'o> = LentHost<'i, 'o, u8>;
+
+impl CodeUnit for u8 {
+    ghost code = { tape_code };
+
+    ghost MOST = { 9 };
+
+    ghost laws = { tape_laws };
+
+    const MOST: u8 = 9;
+
+    fn first_of(units: &[u8]) -> Result<Found, Refusal> {
+        read_first(units)
+    }
+
+    fn push_item(item: Item, list: &mut BoundedList<'_, u8>) -> Result<(), Full> {
+        match item {
+            Item::Number(n) => push_command(0x4e, &n.to_le_bytes(), list),
+            Item::Real(n) => push_command(0x44, &n.to_le_bytes(), list),
+            Item::Character(c) => push_command(0x43, &[c], list),
+        }
+    }
+}
+
+/// Reads what stands first.
+fn read_first(bytes: &[u8]) -> Result<Found, Refusal>
+    ensures { result ≡ first_on bytes.now }
+{
+    let (item, units) = match bytes {
+        [] => return Err(Refusal::NothingWaits),
+        [0x4e, a, b, c, d, ..] => (Item::Number(u32::from_le_bytes([*a, *b, *c, *d])), 5),
+        [0x44, a, b, c, d, e, f, g, h, ..] => (
+            Item::Real(u64::from_le_bytes([*a, *b, *c, *d, *e, *f, *g, *h])),
+            9,
+        ),
+        [0x43, a, ..] => (Item::Character(*a), 2),
+        _ => return Err(Refusal::SpoiledEnd),
+    };
+    Ok(Found { item, units })
+}
+
+/// Appends a command and its operand to a list, where it has room for them.
+fn push_command(command: u8, operand: &[u8], list: &mut BoundedList<'_, u8>) -> Result<(), Full>
+    ensures pushed { PushedIfRoom list.old (command ∷ operand.now) list.new result }
+    ensures lender { list.new.items.ghost_name ≡ list.old.items.ghost_name }
+{
+    list.push(command)?;
+    for byte in operand {
+        list.push(*byte)?;
+    }
+    Ok(())
 }

@@ -12,69 +12,15 @@
 
 #![tactic(auto)]
 
-mod calls;
-mod sheets;
-mod tapes;
+mod call;
+mod case;
+mod run;
+mod sheet_units;
+mod tape_units;
+mod units;
 
-use anyhow::Context;
-use sheets::run_sheet;
+use run::run_line;
 use std::io::{BufRead, BufReader};
-use tapes::run_tape;
-
-/// The case of a line.
-#[derive(Drop)]
-pub(crate) struct Case {
-    name: String,
-    host: String,
-    writes: usize,
-    room: usize,
-    input: String,
-    calls: Vec<String>,
-}
-
-fn read_case(rt: &HostRuntime, line: &str) -> anyhow::Result<Case> {
-    let heap = rt.alloc();
-    let mut words = line.split_whitespace();
-    let name = words.next().context("a line is empty")?.to_string(heap)?;
-    let host = words.next().context("a case has no host")?.to_string(heap)?;
-    let writes = words
-        .next()
-        .context("a case has no writes")?
-        .parse::<usize>()?;
-    let room = words
-        .next()
-        .context("a case has no room")?
-        .parse::<usize>()?;
-    let input = words
-        .next()
-        .context("a case has no input")?
-        .to_string(heap)?;
-    let mut calls = Vec::new(heap);
-    for word in words {
-        calls.push(word.to_string(heap)?)?;
-    }
-    Ok(Case {
-        name,
-        host,
-        writes,
-        room,
-        input,
-        calls,
-    })
-}
-
-/// Runs the case of a line.
-fn run_line(rt: &HostRuntime, line: &str) -> anyhow::Result<()> {
-    let case = read_case(rt, line)?;
-    let name = case.name.as_str();
-    let host = case.host.as_str();
-    println!(rt; "{name}:")?;
-    if host == "tape" {
-        run_tape(rt, &case)
-    } else {
-        run_sheet(rt, &case)
-    }
-}
 
 fn main(rt: HostRuntime) -> anyhow::Result<()> {
     for line in BufReader::new(rt.alloc(), rt.stdin())?.lines(rt.alloc()) {

@@ -5,25 +5,33 @@ use Rattle.std.specs.Prelude.{ℕ, ◌-◌, ◌/◌, ◌%◌, ◌^◌, cond, ℤ
 abbrev pub code_field : ℕ → ℕ
 code_field w = w / 2 ^ 24
 
+-- the four bits from a bit on
+abbrev pub register_field : ℕ → ℕ → ℕ
+register_field at w = w / 2 ^ at % 2 ^ 4
+
 -- bits 20 to 23
 abbrev pub first_field : ℕ → ℕ
-first_field w = w / 2 ^ 20 % 2 ^ 4
+first_field w = register_field 20 w
 
 -- bits 16 to 19
 abbrev pub source_field : ℕ → ℕ
-source_field w = w / 2 ^ 16 % 2 ^ 4
+source_field w = register_field 16 w
 
 -- the number that k bits mean in two's complement (negsuc n is -n - 1)
 abbrev pub signed : ℕ → ℕ → ℤ
 signed k n = cond (nat_lt n (2 ^ (k - 1))) (pos n) (negsuc (2 ^ k - 1 - n))
 
+-- the lowest k bits, signed
+abbrev pub signed_field : ℕ → ℕ → ℤ
+signed_field k w = signed k (w % 2 ^ k)
+
 -- bits 0 to 15, signed
 abbrev pub modifier_field : ℕ → ℤ
-modifier_field w = signed 16 (w % 2 ^ 16)
+modifier_field w = signed_field 16 w
 
 -- bits 0 to 19, signed
 abbrev pub immediate_field : ℕ → ℤ
-immediate_field w = signed 20 (w % 2 ^ 20)
+immediate_field w = signed_field 20 w
 
 -- bits 0 to 19
 abbrev pub address_field : ℕ → ℕ

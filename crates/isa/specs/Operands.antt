@@ -25,10 +25,3 @@ form_in (Rr a b m) = form.Rr
 form_in (Ri a i) = form.Ri
 form_in (Rm a x) = form.Rm
 form_in (J x) = form.J
-
--- a number for each form, so that two forms are the same where their numbers are
-abbrev pub ordinal : Form → ℕ
-ordinal form.Rr = 0
-ordinal form.Ri = 1
-ordinal form.Rm = 2
-ordinal form.J = 3

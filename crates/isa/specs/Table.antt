@@ -1,5 +1,5 @@
 -- The table of commands: each opcode with its code, its name and the form of its operands.
-use Rattle.std.specs.Prelude.{ℕ, cond, List, [], ◌∷◌, Some, None, codes, Option}
+use Rattle.std.specs.Prelude.{ℕ, List, [], ◌∷◌, codes, Option, find}
 use Rattle.std.specs.List.{slice_get}
 use Rattle.std.specs.Str.{bytes_eq}
 use Rattle.isa.specs.declared.form.Form.{Form}
@@ -100,11 +100,6 @@ opcodes =
 abbrev pub opcode_at : ℕ → Option Opcode
 opcode_at c = slice_get opcodes c
 
--- the first opcode of a list that has a name
-abbrev pub first_named : List ℕ → List Opcode → Option Opcode
-first_named w [] = None
-first_named w (o ∷ os) = cond (bytes_eq (name_of o) w) (Some o) (first_named w os)
-
--- the opcode with a name
+-- the first opcode with a name
 abbrev pub opcode_named : List ℕ → Option Opcode
-opcode_named w = first_named w opcodes
+opcode_named w = find (λ o. bytes_eq (name_of o) w) opcodes

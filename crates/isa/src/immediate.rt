@@ -17,7 +17,7 @@ impl Immediate {
     pub fn new(value: i32) -> Option<Immediate>
         ensures { option_map (λ i. i.value) result ≡ in_bits 20 value }
     {
-        if value >= -524_288 && value <= 524_287 {
+        if (-524_288..=524_287).contains(&value) {
             Some(Immediate { value })
         } else {
             None

@@ -1,16 +1,13 @@
--- The lines of a text divide it, the words of a line divide the line, and a word stands at its place.
-use Rattle.std.proofs.Common.{◌≡◌, ℕ, ◌+◌, ◌-◌, ◌≤◌, Bool, true, false, ◌&&◌, ◌||◌, eqb, List, [], ◌∷◌, ◌++◌, length, get_or, take, drop, is_some, sym, refl, ap, ◌∙◌, subst, arith}
-use Rattle.std.specs.List.{between}
-use Rattle.std.proofs.lemmas.Bool.{cond-true, cond-false, cond_both, eqb-true, true≢false}
-use Rattle.std.proofs.lemmas.List.{append_assoc, length-take, length-take-le, take_all, take-take}
+-- The lines of a text divide it, and the words of a line divide the line.
+use Rattle.std.proofs.Common.{◌≡◌, ℕ, true, false, eqb, List, [], ◌∷◌, ◌++◌, sym, refl, ap, ◌∙◌, subst}
+use Rattle.std.proofs.lemmas.Bool.{cond-true, cond-false, eqb-true, true≢false}
+use Rattle.std.proofs.lemmas.List.{append_assoc}
 use Rattle.lexer.specs.declared.inside.Inside.{Inside}
 use Rattle.lexer.specs.declared.inside.Inside.TheVariants.{Gap, Plain, Quoted, Taken}
 use Rattle.lexer.specs.Divided.{rejoined, Lined, NoBlank, Apart, Inner, Whole, Divided}
 use Rattle.lexer.specs.Divided.Whole.{plain, quoted, unclosed, cut}
-use Rattle.lexer.specs.Shown.{Shown, bytes_of, digit, register_number, sorted}
-use Rattle.lexer.specs.Shown.Shown.{name, register, number, string}
 use Rattle.lexer.specs.Text.{on_first, lines_of, blank, onward, spelled}
-use Rattle.lexer.proofs.Split.{by_bool, drop_between}
+use Rattle.lexer.proofs.Split.{by_bool}
 
 -- a byte in front of the first line is one in front of the text
 rejoined_more : (b : ℕ) (l : List ℕ) (ls : List (List ℕ)) → rejoined ((b ∷ l) ∷ ls) ≡ b ∷ rejoined (l ∷ ls)
@@ -126,33 +123,3 @@ from_each (b ∷ bs) =
 -- the words of a line divide it
 pub divides : (line : List ℕ) → Divided line (spelled Gap line)
 divides line = (from_each line).0
-
--- the bytes that a word shows are its first
-shown_front : (fresh : Bool) (w : List ℕ) → take (length (bytes_of (sorted fresh w))) w ≡ bytes_of (sorted fresh w)
-shown_front fresh w =
-    let P : Shown → Type 0 = λ v. take (length (bytes_of v)) w ≡ bytes_of v in
-    let all : take (length w) w ≡ w = take_all (length w) w (omega arith) in
-    cond_both (fresh && eqb (get_or w (length w - 1) 0) 58) _ _ P
-    (λ _. ap (λ i. take i w) (length-take-le (length w - 1) w (omega arith)))
-    (λ _. cond_both (eqb (get_or w 0 0) 34) (string w) _ P (λ _. all)
-    (λ _. cond_both (digit (get_or w 0 0) || eqb (get_or w 0 0) 45) (number w) _ P (λ _. all)
-    (λ _. cond_both (is_some (register_number w)) (register w) (name w) P (λ _. all) (λ _. all))))
-
--- so they stand where the word stands
-pub word_stands : (fresh : Bool) (xs : List ℕ) (n : ℕ) (v : Shown) → v ≡ sorted fresh (take n xs) → take (length (bytes_of v)) xs ≡ bytes_of v
-word_stands fresh xs n v is =
-    let w = take n xs in
-    let bytes = bytes_of (sorted fresh w) in
-    let front = shown_front fresh w in
-    let short : length bytes ≤ n = omega (arith, ap length front, length-take (length bytes) w, length-take n xs) in
-    let at_word : take (length bytes) xs ≡ bytes = sym (take-take (length bytes) n xs short) ∙ front in
-    ap (λ u. take (length (bytes_of u)) xs) is ∙ at_word ∙ ap bytes_of (sym is)
-
--- the word of n bytes after k others, in the text
-pub word_here : (text : List ℕ) (at e k n : ℕ) (from : List ℕ) → from ≡ drop k (between at e text) → n ≤ length from → between (at + k) (at + k + n) text ≡ take n from
-word_here text at e k n from is short =
-    let xs = drop (at + k) text in
-    let there : from ≡ take (e - (at + k)) xs = is ∙ drop_between k at e text in
-    let less : n ≤ e - (at + k) = omega (arith, ap length there, length-take (e - (at + k)) xs) in
-    let long : at + k + n - (at + k) ≡ n = omega arith in
-    ap (λ i. take i xs) long ∙ sym (take-take n (e - (at + k)) xs less) ∙ ap (take n) (sym there)

@@ -1,4 +1,5 @@
 pub mod Again
+pub mod Counts
 pub mod Divides
-pub mod Over
 pub mod Split
+pub mod Stands

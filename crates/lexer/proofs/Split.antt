@@ -1,16 +1,25 @@
 -- A line is its first word and the words of what is left; a text is its first line and the lines of what is left.
-use Rattle.std.proofs.Common.{◌≡◌, ℕ, suc, ◌+◌, ◌<◌, ◌≤◌, Bool, true, false, eqb, List, [], ◌∷◌, length, get_or, take, drop, Some, Option, sym, refl, ap, ◌∙◌, subst, ⊎_elim, arith}
-use Rattle.std.proofs.lemmas.Bool.{cond-true, cond-false, cond_both, cases_Bool, cases_lt, le-leb, lt-leb}
-use Rattle.std.proofs.lemmas.List.{at_drop_all, drop-drop, length-drop, take_all, take-take}
-use Rattle.std.proofs.lemmas.Slice.{between_is}
-use Rattle.std.specs.List.{between}
+use Rattle.std.proofs.Common.{◌≡◌, ℕ, suc, ◌+◌, ◌<◌, ◌≤◌, Bool, true, false, not, eqb, List, [], ◌∷◌, ◌++◌, length, take, drop, Some, None, Option, Bor, sym, refl, ap, ap₂, ◌∙◌, subst, ⊎_elim, arith}
+use Rattle.std.proofs.lemmas.Bool.{cond_both, cases_Bool, cases_lt}
+use Rattle.std.proofs.lemmas.List.{at_drop_all, length-take-le, take-append-drop, take_rest}
 use Rattle.lexer.specs.declared.inside.Inside.{Inside}
 use Rattle.lexer.specs.declared.inside.Inside.TheVariants.{Gap, Plain, Quoted, Taken}
-use Rattle.lexer.specs.Shown.{Shown, sorted, first_told, first_shown}
-use Rattle.lexer.specs.Text.{on_first, lines_of, run_to, blank, blanks, onward, spelled, word_left, before, tail_of, lines_left}
+use Rattle.std.specs.List.{before_first, position_or_len}
+use Rattle.std.specs.Slice.{IsGetRangeResult}
+use Rattle.lexer.specs.Cursor.{lines_left}
+use Rattle.lexer.specs.Parts.{WordFirst}
+use Rattle.lexer.specs.Text.{on_first, lines_of, blank, blanks, onward, spelled, word_left, before, numbered}
+use Rattle.lexer.specs.Text.{first_line as first_told_line}
 
 pub by_bool : {P : Type 0} (t : Bool) → (t ≡ true → P) → (t ≡ false → P) → P
 by_bool t f g = ⊎_elim f g (cases_Bool t)
+
+-- the first place at which a byte is no blank
+pub blanks_position : (bs : List ℕ) → blanks bs ≡ position_or_len (λ b. not (blank b)) bs
+blanks_position [] = refl
+blanks_position (b ∷ bs) = by_bool (blank b)
+    (λ e. let more = blanks_position bs in simp e (omega arith))
+    (λ e. simp e)
 
 pub gap_blanks : (bs : List ℕ) → spelled Gap bs ≡ spelled Gap (drop (blanks bs) bs)
 gap_blanks [] = refl
@@ -46,70 +55,63 @@ first_word (b ∷ bs) h = by_bool (blank b)
     (λ e. let z : blanks (b ∷ bs) ≡ 0 = simp e in subst (FirstAt (b ∷ bs)) (sym z) (gap_split b bs e))
 
 -- lines
-pub one_line : (bs : List ℕ) → length bs ≤ run_to 10 bs → lines_of bs ≡ bs ∷ []
+pub one_line : (bs : List ℕ) → length bs ≤ length (before 10 bs) → lines_of bs ≡ before 10 bs ∷ []
 one_line [] h = refl
 one_line (b ∷ bs) h = by_bool (eqb b 10)
     (λ e. let k = simp e at h in absurd (omega arith))
-    (λ e. let k : length bs ≤ run_to 10 bs = (let k = simp e at h in omega arith) in simp e (ap (on_first b) (one_line bs k)))
+    (λ e. let k : length bs ≤ length (before 10 bs) = (let k = simp e at h in omega arith) in simp e (ap (on_first b) (one_line bs k)))
 
-pub first_line : (bs : List ℕ) → run_to 10 bs < length bs → lines_of bs ≡ take (run_to 10 bs) bs ∷ lines_of (drop (suc (run_to 10 bs)) bs)
+pub first_line : (bs : List ℕ) → length (before 10 bs) < length bs → lines_of bs ≡ before 10 bs ∷ lines_of (drop (suc (length (before 10 bs))) bs)
 first_line [] h = absurd (omega arith)
 first_line (b ∷ bs) h = by_bool (eqb b 10)
     (λ e. simp e)
-    (λ e. let k : run_to 10 bs < length bs = (let k = simp e at h in omega arith) in simp e (ap (on_first b) (first_line bs k)))
+    (λ e. let k : length (before 10 bs) < length bs = (let k = simp e at h in omega arith) in simp e (ap (on_first b) (first_line bs k)))
 
-pub before_is : (c : ℕ) (bs : List ℕ) → before c bs ≡ take (run_to c bs) bs
+pub before_is : (c : ℕ) (bs : List ℕ) → before c bs ≡ before_first (λ b. eqb b c) bs
 before_is c [] = refl
-before_is c (b ∷ bs) = by_bool (eqb b c) (λ e. simp e) (λ e. simp e (ap (λ l. b ∷ l) (before_is c bs)))
+before_is c (b ∷ bs) =
+    let n = position_or_len (λ b. eqb b c) bs in
+    let one : 1 + n ≡ suc n = omega arith in
+    by_bool (eqb b c) (λ e. simp e) (λ e. simp e (ap (λ l. b ∷ l) (before_is c bs) ∙ sym (ap (λ i. take i (b ∷ bs)) one)))
 
 pub no_word : (bs : List ℕ) → length bs ≤ blanks bs → spelled Gap bs ≡ []
 no_word bs h = gap_blanks bs ∙ at_drop_all (spelled Gap) bs (blanks bs) h
 
-pub word_some : (bs : List ℕ) → 0 < length bs → blank (get_or bs 0 0) ≡ false → 0 < word_left Gap bs
-word_some [] h e = absurd (omega arith)
-word_some (b ∷ bs) h e = simp e (omega arith)
+-- a word is cut off: k blanks are passed over, and the word has n bytes
+pub word_first : (code : List ℕ) (k n : ℕ) (from word rest : List ℕ) → (k ≡ blanks code) × (k < length code) → from ≡ drop k code → n ≡ word_left Gap from → n ≤ length from → word ≡ take n from → rest ≡ drop n from → WordFirst code k word rest
+word_first code k n from word rest h from_is n_is short word_is rest_is =
+    let one = first_word code (omega (arith, h.0, h.1)) in
+    let from' : from ≡ drop (blanks code) code = from_is ∙ ap (λ i. drop i code) h.0 in
+    let n' : n ≡ word_left Gap (drop (blanks code) code) = n_is ∙ ap (word_left Gap) from' in
+    record {
+      skipped = h.0;
+      some = h.1;
+      whole = sym (ap (λ l. take k code ++ l) (ap₂ ◌++◌ word_is rest_is ∙ take-append-drop n from ∙ from_is) ∙ take-append-drop k code);
+      words = rw (word_is, rest_is, n', from') one;
+      long = ap length word_is ∙ length-take-le n from short ∙ n_is ∙ ap (word_left Gap) from_is;
+    }
 
-pub drop_between : (m a e : ℕ) (xs : List ℕ) → drop m (between a e xs) ≡ between (a + m) e xs
-drop_between m a e xs = ap (drop m) (between_is xs a e) ∙ drop-drop m a (take e xs) ∙ sym (between_is xs (a + m) e)
+-- where no word is left, only blanks are
+pub all_blanks : (bs : List ℕ) → spelled Gap bs ≡ [] → length bs ≤ blanks bs
+all_blanks bs e = ⊎_elim
+    (λ (h : blanks bs < length bs). let one = first_word bs h in absurd (cc))
+    (λ (h : length bs ≤ blanks bs). h)
+    (cases_lt (blanks bs) (length bs))
 
--- one word on: k blanks are passed over, and the word has n bytes
-pub word_on : (rest from : List ℕ) (k n : ℕ) → k ≡ blanks rest → k < length rest → from ≡ drop k rest → n ≡ word_left Gap from → spelled Gap rest ≡ take n from ∷ spelled Gap (drop n from)
-word_on rest from k n k_is some from_is n_is =
-    let h : blanks rest < length rest = omega arith in
-    let one = first_word rest h in
-    let from' : from ≡ drop (blanks rest) rest = from_is ∙ ap (λ i. drop i rest) k_is in
-    let n' : n ≡ word_left Gap (drop (blanks rest) rest) = n_is ∙ ap (word_left Gap) from' in
-    rw (n', from') one
+-- one line on: what is left begins past the byte after it
+pub next_line : (rest line : List ℕ) (r : Option (Bor (List ℕ))) → line ≡ before 10 rest → IsGetRangeResult rest (length line + 1) (length rest) r → lines_of rest ≡ line ∷ lines_left r
+next_line rest line None is (none, some) = ⊎_elim
+    (λ (h : length rest < length line + 1). rw is (one_line rest (omega (arith, ap length is))))
+    (λ (h : length rest < length rest). absurd (omega arith))
+    none
+next_line rest line (Some left) is (got, some) =
+    let one = first_line rest (omega (arith, got.0, ap length is)) in
+    let past : left.now ≡ drop (suc (length line)) rest = got.2 ∙ take_rest rest (length line + 1) ∙ ap (λ i. drop i rest) (let e : length line + 1 ≡ suc (length line) = omega arith in e) in
+    rw (past, is) one
 
-module _ (rest from : List ℕ) (k n : ℕ) (k_is : k ≡ blanks rest) (some : k < length rest) (from_is : from ≡ drop k rest) (n_is : n ≡ word_left Gap from) where
-  pub next_told : (fresh : Bool) (line at : ℕ) (part : List ℕ) (v : Shown) → part ≡ take n from → v ≡ sorted fresh part → ◌≡◌ {A = Option (ℕ × ℕ × Shown)} (Some (line, at + k, v)) (first_told line fresh (at + blanks rest) (spelled Gap rest))
-  next_told fresh line at part v part_is v_is =
-      ap (λ w. Some (line, at + k, w)) (v_is ∙ ap (sorted fresh) part_is) ∙ ap (λ i. Some (line, at + i, sorted fresh (take n from))) k_is ∙ sym (ap (first_told line fresh (at + blanks rest)) (word_on rest from k n k_is some from_is n_is))
+-- the same with numbers and places
+pub next_numbered : (n p : ℕ) (lines more : List (List ℕ)) (line code : List ℕ) → lines ≡ line ∷ more → code ≡ before 35 line → numbered n p lines ≡ (n, p, code) ∷ numbered (n + 1) (p + (length line + 1)) more
+next_numbered n p lines more line code is code_is = ap (numbered n p) is ∙ ap (λ c. (n, p, c) ∷ numbered (n + 1) (p + length line + 1) more) (sym code_is) ∙ ap (λ q. (n, p, code) ∷ numbered (n + 1) q more) (let e : p + length line + 1 ≡ p + (length line + 1) = omega arith in e)
 
-  pub next_kind : (fresh : Bool) (part : List ℕ) (v : Shown) → part ≡ take n from → v ≡ sorted fresh part → ◌≡◌ {A = Option Shown} (Some v) (first_shown fresh (spelled Gap rest))
-  next_kind fresh part v part_is v_is = ap Some (v_is ∙ ap (sorted fresh) part_is) ∙ sym (ap (first_shown fresh) (word_on rest from k n k_is some from_is n_is))
-
-  pub next_left : (at e : ℕ) (text : List ℕ) → rest ≡ between at e text → spelled Gap (between (at + k + n) e text) ≡ tail_of (spelled Gap rest)
-  next_left at e text rest_is =
-      let there : drop n from ≡ between (at + k + n) e text = ap (drop n) (from_is ∙ ap (drop k) rest_is ∙ drop_between k at e text) ∙ drop_between n (at + k) e text in
-      sym (ap (spelled Gap) there) ∙ sym (ap tail_of (word_on rest from k n k_is some from_is n_is))
-
--- one line on
-pub line_on : (text : List ℕ) (at n : ℕ) → at ≤ length text → n ≡ run_to 10 (drop at text) → n ≤ length (drop at text) → lines_left text at ≡ take n (drop at text) ∷ lines_left text (at + n + 1)
-line_on text at n within n_is short =
-    let rest = drop at text in
-    let long = length-drop at text in
-    let here : lines_left text at ≡ lines_of rest = cond-true _ _ _ (le-leb at (length text) within) in
-    ⊎_elim
-    (λ (h : n < length rest).
-    let on : lines_left text (at + n + 1) ≡ lines_of (drop (suc n) rest) = cond-true _ _ _ (le-leb (at + n + 1) (length text) (omega arith)) ∙ ap lines_of (ap (λ i. drop i text) (let e : at + n + 1 ≡ at + suc n = omega arith in e) ∙ sym (drop-drop (suc n) at text)) in
-    let one : lines_of rest ≡ take n rest ∷ lines_of (drop (suc n) rest) = (let P : ℕ → Type 0 = λ i. lines_of rest ≡ take i rest ∷ lines_of (drop (suc i) rest) in subst P (sym n_is) (first_line rest (omega arith))) in
-    here ∙ one ∙ ap (λ l. take n rest ∷ l) (sym on))
-    (λ (h : length rest ≤ n).
-    let on : lines_left text (at + n + 1) ≡ [] = cond-false _ _ _ (lt-leb (at + n + 1) (length text) (omega arith)) in
-    here ∙ one_line rest (omega arith) ∙ ap (λ l. l ∷ []) (sym (take_all n rest h)) ∙ ap (λ l. take n rest ∷ l) (sym on))
-    (cases_lt n (length rest))
-
--- the words of a line are those before its hash
-pub line_words : (rest : List ℕ) (n m : ℕ) → n ≤ length rest → m ≤ n → m ≡ run_to 35 (take n rest) → before 35 (take n rest) ≡ take m rest
-line_words rest n m long short m_is = before_is 35 (take n rest) ∙ ap (λ i. take i (take n rest)) (sym m_is) ∙ take-take m n rest short
+pub next_told : (n p : ℕ) (lines more : List (List ℕ)) (line code : List ℕ) → lines ≡ line ∷ more → code ≡ before 35 line → ◌≡◌ {A = Option (ℕ × ℕ × List ℕ)} (Some (n, p, code)) (first_told_line n p lines)
+next_told n p lines more line code is code_is = ap (λ c. Some (n, p, c)) code_is ∙ sym (ap (first_told_line n p) is)

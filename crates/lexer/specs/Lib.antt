@@ -1,5 +1,6 @@
 pub mod Cursor
 pub mod Divided
 pub mod Escape
+pub mod Parts
 pub mod Shown
 pub mod Text

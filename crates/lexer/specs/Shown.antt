@@ -1,8 +1,8 @@
 -- What kind of word a word is, and what a word of the lexer shows of the text.
 use Rattle.std.specs.Prelude.{ℕ, ◌-◌, Bool, cond, ◌&&◌, ◌||◌, List, [], ◌∷◌, length, take, is_some, Some, None, Option, ◌==◌, nat_le, slice_index}
-use Rattle.lexer.specs.declared.word.Told.{Told}
+use Rattle.lexer.specs.declared.word.Token.{Token}
 use Rattle.lexer.specs.declared.word.Word.{Word}
-use Rattle.lexer.specs.declared.word.Word.TheVariants.{Label, Name, Register, Number, Text}
+use Rattle.lexer.specs.declared.word.Word.TheVariants.{Name, Register, Number, Text}
 
 -- a word by its kind and its bytes
 pub data Shown : Type 0 where
@@ -14,7 +14,6 @@ pub data Shown : Type 0 where
 
 -- a word of the lexer by its kind and its bytes
 abbrev pub shown : Word → Shown
-shown (Label s) = label s.now
 shown (Name s) = name s.now
 shown (Register s) = register s.now
 shown (Number s) = number s.now
@@ -52,9 +51,18 @@ abbrev pub sorted : Bool → List ℕ → Shown
 sorted fresh w = cond (fresh && slice_index w (length w - 1) == 58) (label (take (length w - 1) w)) (kind_of w)
 
 -- a word's line, its place in the text, and what it shows
-abbrev pub tell : Option Told → Option (ℕ × ℕ × Shown)
+abbrev pub tell : Option Token → Option (ℕ × ℕ × Shown)
 tell None = None
 tell (Some t) = Some (t.line, t.place, shown t.word)
+
+-- a word that is a label: its line, its place, and its bytes before the colon
+abbrev pub told_label : Option (ℕ × ℕ × Shown) → Option (ℕ × ℕ × List ℕ)
+told_label None = None
+told_label (Some (n, p, label w)) = Some (n, p, w)
+told_label (Some (n, p, name w)) = None
+told_label (Some (n, p, register w)) = None
+told_label (Some (n, p, number w)) = None
+told_label (Some (n, p, string w)) = None
 
 -- the first of the words, on line n and at the place p
 abbrev pub first_told : ℕ → Bool → ℕ → List (List ℕ) → Option (ℕ × ℕ × Shown)

@@ -1,5 +1,5 @@
 -- Lines and words of a text, over its bytes.
-use Rattle.std.specs.Prelude.{ℕ, suc, ◌+◌, Bool, true, false, cond, not, ◌&&◌, ◌||◌, List, [], ◌∷◌, length, drop, Some, None, Option, ◌==◌, nat_eq, nat_le}
+use Rattle.std.specs.Prelude.{ℕ, suc, ◌+◌, Bool, true, false, cond, not, ◌&&◌, ◌||◌, List, [], ◌∷◌, length, Some, None, Option, ◌==◌}
 use Rattle.lexer.specs.declared.inside.Inside.{Inside}
 use Rattle.lexer.specs.declared.inside.Inside.TheVariants.{Gap, Plain, Quoted, Taken}
 
@@ -17,10 +17,6 @@ lines_of (b ∷ bs) = cond (b == 10) ([] ∷ lines_of bs) (on_first b (lines_of 
 abbrev pub goes_over : {S : Type 0} → (S → ℕ → Bool) → (S → ℕ → S) → S → List ℕ → ℕ
 goes_over stop next s [] = 0
 goes_over stop next s (b ∷ bs) = cond (stop s b) 0 (suc (goes_over stop next (next s b) bs))
-
--- how many bytes stand before the first c
-abbrev pub run_to : ℕ → List ℕ → ℕ
-run_to c bs = goes_over (λ _ b. nat_eq b c) (λ s _. s) c bs
 
 -- what stands before the first c
 abbrev pub before : ℕ → List ℕ → List ℕ
@@ -85,14 +81,15 @@ abbrev pub tail_of : List (List ℕ) → List (List ℕ)
 tail_of [] = []
 tail_of (w ∷ ws) = ws
 
--- the lines from a place on, none past the text
-abbrev pub lines_left : List ℕ → ℕ → List (List ℕ)
-lines_left text at = cond (nat_le at (length text)) (lines_of (drop at text)) []
-
 -- the first of the lines as its number, its place and what stands before its comment
 abbrev pub first_line : ℕ → ℕ → List (List ℕ) → Option (ℕ × ℕ × List ℕ)
 first_line n p [] = None
 first_line n p (l ∷ ls) = Some (n, p, before 35 l)
+
+-- lines, the first of them on line n and at the place p, each as its number, its place and what stands before its comment
+abbrev pub numbered : ℕ → ℕ → List (List ℕ) → List (ℕ × ℕ × List ℕ)
+numbered n p [] = []
+numbered n p (l ∷ ls) = (n, p, before 35 l) ∷ numbered (n + 1) (p + length l + 1) ls
 
 -- where the next line begins
 abbrev pub next_at : ℕ → List (List ℕ) → ℕ

@@ -1,7 +1,8 @@
 //! Where the reading of a line stands between two bytes.
 
-ghost use Rattle.std.specs.Prelude.{◌≡◌, ◌<◌, ◌≤◌, false, ◌&&◌, length, slice_index};
-ghost use Rattle.lexer.specs.Text.{run_to, blank, blanks, word_left, open?, onward};
+ghost use Rattle.std.specs.Prelude.{◌≡◌, ◌≤◌, ◌&&◌, [], length, MatchOption};
+ghost use Rattle.lexer.specs.Parts.{WordFirst};
+ghost use Rattle.lexer.specs.Text.{before, spelled, blank, word_left, open?, onward};
 
 /// Between words, in a word, in a quoted part, or right after a backslash in one.
 #[derive(Clone, Copy)]
@@ -30,53 +31,29 @@ fn onward_from(at: Inside, b: u8) -> Inside
 fn is_blank(b: u8) -> bool
     ensures { result ≡ blank b }
 {
-    b == b' ' || b == b'\t'
+    matches!(b, b' ' | b'\t')
 }
 
 /// Whether a byte ends the word there.
 fn ends_word(at: Inside, b: u8) -> bool
     ensures { result ≡ (open? at && blank b) }
 {
-    match at {
-        Inside::Gap | Inside::Plain => is_blank(b),
-        Inside::Quoted | Inside::Taken => false,
-    }
+    matches!(at, Inside::Gap | Inside::Plain) && is_blank(b)
 }
 
-/// How many bytes stand before the first `b`.
-pub(crate) fn run_to(s: &[u8], b: u8) -> usize
-    ensures count { result ≡ run_to b s.now }
-    ensures within { result ≤ length s.now }
+/// What stands before the first `b`, or all where there is none.
+pub(crate) fn before(s: &[u8], b: u8) -> &[u8]
+    ensures value { result.now ≡ before b s.now }
+    ensures within { length result.now ≤ length s.now }
 {
-    for (i, x) in s.iter().enumerate() {
-        if *x == b {
-            return i;
-        }
-    }
-    s.len()
-}
-
-/// How many blanks stand in front.
-pub(crate) fn count_blanks(s: &[u8]) -> usize
-    ensures count { result ≡ blanks s.now }
-    ensures within { result ≤ length s.now }
-    ensures stops { result < length s.now → blank (slice_index s.now result) ≡ false }
-{
-    for (i, x) in s.iter().enumerate() {
-        if !is_blank(*x) {
-            return i;
-        }
-    }
-    s.len()
+    let count = s.iter().position(|x| *x == b).unwrap_or(s.len());
+    s.split_at(count).0
 }
 
 /// How many bytes the word in front has.
-pub(crate) fn word_len(s: &[u8]) -> usize
-    requires some { 0 < length s.now }
-    requires first { blank (slice_index s.now 0) ≡ false }
+fn word_len(s: &[u8]) -> usize
     ensures count { result ≡ word_left Inside.Gap s.now }
     ensures within { result ≤ length s.now }
-    ensures some { 0 < result }
 {
     let mut at = Inside::Gap;
     for (i, x) in s.iter().enumerate() {
@@ -86,4 +63,14 @@ pub(crate) fn word_len(s: &[u8]) -> usize
         at = onward_from(at, *x);
     }
     s.len()
+}
+
+/// How many blanks stand before the first word, that word, and what follows it.
+pub(crate) fn split_word(code: &[u8]) -> Option<(usize, &[u8], &[u8])>
+    ensures { MatchOption result (spelled Inside.Gap code.now ≡ []) (λ w. WordFirst code.now w.0 w.1.now w.2.now) }
+{
+    let blanks = code.iter().position(|b| !is_blank(*b))?;
+    let (_, from) = code.split_at(blanks);
+    let (word, rest) = from.split_at(word_len(from));
+    Some((blanks, word, rest))
 }

@@ -1,13 +1,11 @@
 //! Words, by their kinds.
 
-ghost use Rattle.std.specs.Prelude.{◌≡◌, ◌<◌, length};
-ghost use Rattle.lexer.specs.Shown.{shown, kind_of, sorted, digit, register_number};
+ghost use Rattle.std.specs.Prelude.{◌≡◌};
+ghost use Rattle.lexer.specs.Shown.{shown, kind_of, register_number};
 
-/// A word of the text.
+/// A word of the text that is no label.
 #[derive(Clone, Copy)]
 pub enum Word<'a> {
-    /// The first word of a line where it ends in a colon, without that colon.
-    Label(&'a [u8]),
     /// Any word that is of no other kind.
     Name(&'a [u8]),
     /// r0 to r15.
@@ -20,16 +18,18 @@ pub enum Word<'a> {
 
 /// A word with its line and its place in the text.
 #[derive(Clone, Copy)]
-pub struct Told<'a> {
+pub struct Token<'a> {
     pub line: usize,
     pub place: usize,
     pub word: Word<'a>,
 }
 
-fn is_digit(b: u8) -> bool
-    ensures { result ≡ digit b }
-{
-    b'0' <= b && b <= b'9'
+/// The label that a line begins with, without its colon, with its line and its place in the text.
+#[derive(Clone, Copy)]
+pub struct LineLabel<'a> {
+    pub line: usize,
+    pub place: usize,
+    pub name: &'a [u8],
 }
 
 /// The number of a register's name, or none for another word.
@@ -44,31 +44,13 @@ pub fn register_number(word: &[u8]) -> Option<u8>
 }
 
 /// The kind of a word that is no label.
-fn kind_of<'a>(word: &'a [u8]) -> Word<'a>
-    requires { 0 < length word.now }
+pub(crate) fn kind_of<'a>(word: &'a [u8]) -> Word<'a>
     ensures { shown result ≡ kind_of word.now }
 {
-    let first = word[0];
-    if first == b'"' {
-        Word::Text(word)
-    } else if is_digit(first) || first == b'-' {
-        Word::Number(word)
-    } else if register_number(word).is_some() {
-        Word::Register(word)
-    } else {
-        Word::Name(word)
-    }
-}
-
-/// The kind of a word, which may be the first of its line.
-pub(crate) fn sort<'a>(fresh: bool, word: &'a [u8]) -> Word<'a>
-    requires { 0 < length word.now }
-    ensures { shown result ≡ sorted fresh word.now }
-{
-    let last = word.len() - 1;
-    if fresh && word[last] == b':' {
-        Word::Label(&word[0..last])
-    } else {
-        kind_of(word)
+    match word {
+        [b'"', ..] => Word::Text(word),
+        [b'0'..=b'9' | b'-', ..] => Word::Number(word),
+        _ if register_number(word).is_some() => Word::Register(word),
+        _ => Word::Name(word),
     }
 }

@@ -1,29 +1,23 @@
 //! The program, over any input and output.
 
-ghost use Rattle.std.specs.Prelude.{◌≤◌, IfOk};
+ghost use Rattle.std.specs.Prelude.{◌≡◌, take, IfOk, IfSome};
 
-use anyhow::anyhow;
+use anyhow::bail;
 use listing::printout::printout;
 use std::alloc::Global;
 use std::io;
 use std::io::{Read, Write};
 
 /// One byte more than the program takes, so that a longer input is seen to be longer.
-const LIMIT: usize = 8193;
+const LIMIT: u64 = 8193;
 
-/// Reads up to a buffer's length, and answers how many bytes came.
-fn read_input<R: Read>(input: &mut R, buffer: &mut [u8; 8193]) -> io::Result<usize>
-    ensures { IfOk result (λ n. n ≤ 8193) }
+/// Reads an input, and of a long one the first `LIMIT` bytes.
+fn read_input<R: Read>(heap: Global, input: &mut R) -> io::Result<Vec<u8>>
+    ensures { IfOk result (λ bytes. IfSome (R.remaining input.old) (λ all. bytes.items ≡ take LIMIT all)) }
 {
-    let mut filled = 0;
-    for _ in 0..LIMIT {
-        let count = input.read(&mut buffer[filled..])?;
-        if count == 0 {
-            break;
-        }
-        filled += count;
-    }
-    Ok(filled)
+    let mut bytes = Vec::new(heap);
+    input.take(LIMIT).read_to_end(&mut bytes)?;
+    Ok(bytes)
 }
 
 /// Prints the listing of an input. A refusal is printed too, and makes the program fail.
@@ -32,12 +26,11 @@ pub(crate) fn run<R: Read, W: Write>(
     input: &mut R,
     output: &mut W,
 ) -> anyhow::Result<()> {
-    let mut buffer = [0u8; 8193];
-    let length = read_input(input, &mut buffer)?;
-    let printed = printout(heap, &buffer[0..length])?;
-    output.write_all(printed.text.as_slice())?;
-    if printed.refused {
-        return Err(anyhow!("refused"));
+    let bytes = read_input(heap, input)?;
+    let printed = printout(heap, bytes.as_slice())?;
+    output.write_all(printed.text())?;
+    if printed.is_refused() {
+        bail!("refused");
     }
     Ok(())
 }

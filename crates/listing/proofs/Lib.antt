@@ -1,6 +1,4 @@
 pub mod Answered
 pub mod Prints
 pub mod Room
-pub mod Texts
 pub mod Turns
-pub mod Signs

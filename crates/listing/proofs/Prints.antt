@@ -1,38 +1,26 @@
 -- What stands on the page of the listing program.
-use Rattle.std.proofs.Common.{◌≡◌, ℕ, ◌^◌, ◌<◌, ◌≤◌, true, false, List, length, take, drop, Ok, Err, Result, sym, refl, ap, ◌∙◌, arith, rules}
+use Rattle.std.proofs.Common.{◌≡◌, ℕ, ◌<◌, ◌≤◌, true, false, List, length, take, drop, Ok, Err, Result, IfOk, IfErr, sym, ap, ◌∙◌, arith, rules}
 use Rattle.std.proofs.lemmas.List.{take_at}
-use Rattle.std.proofs.lemmas.Bool.{cond-true, cond-false, cond_both, le-leb, leb-true, lt-ltb, le-ltb, both_ways}
+use Rattle.std.proofs.lemmas.Bool.{cond-true, cond-false, cond_both, le-leb, le-ltb, both_ways}
 use Rattle.executable.specs.Check.{Parts, parts_in, checked}
 use Rattle.executable.specs.Numbers as numbers
 use Rattle.executable.specs.Questions as executable
 use Rattle.executable.specs.declared.refusal.Refusal as refused
 use Rattle.executable.specs.declared.refusal.Refusal.TheVariants.{TooShort, NoMark, OtherProcessor, FillerNotZero, BadSizes, OtherLength, AddressTooLarge}
 use Rattle.executable.proofs.Accepted.{accepted}
-use Rattle.listing.specs.Listing.{listing, room_for, listed_parts, listed, length_of, output_after, asked, OnlyFirstNo}
-use Rattle.output.specs.Overlay.{Wrote}
-use Rattle.listing.specs.Printout.{taken, text_of, is_refused}
+use Rattle.listing.specs.Listing.{listing, room_for, listed_parts, listed, length_of, output_after, OnlyFirstNo}
+use Rattle.listing.specs.Numbers.{number_of}
+use Rattle.listing.specs.Printout.{taken, text_of, refused_text, is_refused}
 use Rattle.listing.specs.declared.refusal.Refusal.{Refusal}
 use Rattle.listing.specs.declared.refusal.Refusal.TheVariants.{Executable, OutputTooShort}
 use Rattle.listing.proofs.Room.{Bytes, listing_length}
-use Rattle.output.proofs.Writes.{overlay_whole}
-
--- a text written at the start of a page that has room for it
-pub on_page : (o o' text : List ℕ) (n : ℕ) → Wrote o 0 text n o' → length text ≤ length o → length o < 2 ^ 64 → (take n o' ≡ text) × (n ≤ length o)
-on_page o o' text n w fits small =
-    let e : n ≡ length text = omega (arith, w.ends) in (
-      ap (take n) (w.laid ∙ overlay_whole o text fits) ∙ take_at text (drop (length text) o) n (sym e),
-      omega arith,
-    )
 
 below_27 : (q : refused.Refusal) → numbers.number_of q < 27
 below_27 q = search rules
 
 -- an input that is not too long is checked
-pub short_input : (bs : List ℕ) → length bs ≤ 8192 → taken bs ≡ checked bs
+short_input : (bs : List ℕ) → length bs ≤ 8192 → taken bs ≡ checked bs
 short_input bs h = cond-false _ _ _ (le-ltb 8192 (length bs) h)
-
-pub long_input : (bs : List ℕ) → 8192 < length bs → taken bs ≡ Err OtherLength
-long_input bs h = cond-true _ _ _ (lt-ltb 8192 (length bs) h)
 
 module _ (bs : List ℕ) (room : ℕ) (each : (q : refused.Refusal) → executable.asked q bs ≡ true) where
   parts_are : checked bs ≡ Ok (parts_in bs)
@@ -48,20 +36,22 @@ module _ (bs : List ℕ) (room : ℕ) (each : (q : refused.Refusal) → executab
   pub taken_is : length bs ≤ 8192 → taken bs ≡ Ok (parts_in bs)
   taken_is h = short_input bs h ∙ parts_are
 
--- the listing of a short input stands on the page
-pub listed_page : (bs o o' : List ℕ) (n : ℕ) → length bs ≤ 8192 → Ok n ≡ length_of (listed bs (length o)) → o' ≡ output_after (listed bs (length o)) o
-    → ((q : Refusal) → asked q bs (length o) ≡ true) → (take n o' ≡ text_of (taken bs)) × ((false ≡ is_refused (taken bs)) × (n ≤ length o))
-listed_page bs o o' n h v out each =
-    let own = λ (q : refused.Refusal). each (Executable q) in
-    let text = listing (parts_in bs) in
-    let room = each OutputTooShort in
-    let is = listed_is bs (length o) own room in
-    let got = taken_is bs (length o) own h in
-    let size : Ok n ≡ Ok (length text) = v ∙ ap length_of is in
-    let same : n ≡ length text = cc in (
-      ap (take n) (out ∙ ap (λ r. output_after r o) is) ∙ take_at text (drop (length text) o) n (sym same) ∙ ap text_of (sym got),
-      (ap is_refused (sym got), omega (arith, same, leb-true (length text) (length o) room)),
-    )
+-- what the call answers and leaves for a short input, over a page that has room
+module _ (bs o o' : List ℕ) (h : length bs ≤ 8192) (out : o' ≡ output_after (listed bs (length o)) o) where
+  -- the listing stands on the page
+  pub listed_page : (r : Result ℕ Refusal) → r ≡ length_of (listed bs (length o)) → OnlyFirstNo bs (length o) r
+      → IfOk r (λ n. (take n o' ≡ text_of (taken bs)) × (is_refused (taken bs) ≡ false))
+  listed_page (Ok n) v each =
+      let own = λ (q : refused.Refusal). each (Executable q) in
+      let text = listing (parts_in bs) in
+      let is = listed_is bs (length o) own (each OutputTooShort) in
+      let got = taken_is bs (length o) own h in
+      let size : Ok n ≡ Ok (length text) = v ∙ ap length_of is in
+      let same : n ≡ length text = cc in (
+        ap (take n) (out ∙ ap (λ r. output_after r o) is) ∙ take_at text (drop (length text) o) n (sym same) ∙ ap text_of (sym got),
+        ap is_refused got,
+      )
+  listed_page (Err q) v each = tt
 
 -- a refused input has its own refusal
 refusal_is : (room : ℕ) (r : Result Parts refused.Refusal) (q : refused.Refusal) → Err (Executable q) ≡ length_of (listed_parts r room) → r ≡ Err q
@@ -72,9 +62,13 @@ refusal_is room (Ok p) q v =
     (λ _ (e : Err (Executable q) ≡ Err OutputTooShort). let z : ◌≡◌ {A = ℕ} 0 1 = cc in absurd (omega arith))
     v
 
-pub refused_page : (bs o : List ℕ) (q : Refusal) → Bytes bs → length bs ≤ 8192 → 65536 ≤ length o → Err q ≡ length_of (listed bs (length o)) → OnlyFirstNo bs (length o) (Err q)
-    → (e : refused.Refusal) × (q ≡ Executable e) × (taken bs ≡ Err e)
-refused_page bs o (Executable e) typed h r v first = (e, refl, short_input bs h ∙ refusal_is (length o) (checked bs) e v)
-refused_page bs o OutputTooShort typed h r v first =
+-- and a page has room, so the refusal is the input's own
+pub refused_page : (bs o : List ℕ) (r : Result ℕ Refusal) → Bytes bs → length bs ≤ 8192 → 65536 ≤ length o → r ≡ length_of (listed bs (length o)) → OnlyFirstNo bs (length o) r
+    → IfErr r (λ q. (refused_text (number_of q) ≡ text_of (taken bs)) × (is_refused (taken bs) ≡ true))
+refused_page bs o (Ok n) typed h room v first = tt
+refused_page bs o (Err (Executable e)) typed h room v first =
+    let is : Err e ≡ taken bs = sym (short_input bs h ∙ refusal_is (length o) (checked bs) e v) in
+    (ap text_of is, ap is_refused (sym is))
+refused_page bs o (Err OutputTooShort) typed h room v first =
     let own = λ (q : refused.Refusal). first.1 (Executable q) (below_27 q) in
-    absurd (both_ways (room_for (parts_in bs) (length o)) first.0 (fits_page bs (length o) own typed h r))
+    absurd (both_ways (room_for (parts_in bs) (length o)) first.0 (fits_page bs (length o) own typed h room))

@@ -6,6 +6,8 @@ use Rattle.executable.specs.declared.refusal.Refusal.{Refusal}
 use Rattle.executable.specs.declared.refusal.Refusal.TheVariants.{OtherLength}
 use Rattle.listing.specs.Lines.{line_text, number_line}
 use Rattle.listing.specs.Listing.{listing}
+use Rattle.listing.specs.declared.printout.Printed.{Printed}
+use Rattle.listing.specs.declared.printout.Printed.TheVariants.{Listing, Refused}
 
 -- the program takes at most 8,192 bytes; more is refused as a wrong length
 abbrev pub taken : List ℕ → Result Parts Refusal
@@ -21,3 +23,13 @@ text_of (Err q) = refused_text (number_of q)
 abbrev pub is_refused : Result Parts Refusal → Bool
 is_refused (Ok p) = false
 is_refused (Err q) = true
+
+-- the text that is printed
+abbrev pub printed_text : Printed → List ℕ
+printed_text (Listing text) = text.items
+printed_text (Refused text) = text.items
+
+-- and whether it tells a refusal
+abbrev pub tells_refusal : Printed → Bool
+tells_refusal (Listing text) = false
+tells_refusal (Refused text) = true

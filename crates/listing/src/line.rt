@@ -4,73 +4,67 @@ ghost use Rattle.std.specs.List.{flat_map};
 ghost use Rattle.isa.specs.Command.{plain};
 ghost use Rattle.isa.specs.Operands.{numbers_in};
 ghost use Rattle.listing.specs.Lines.{after_blank, line_text, number_line, operand_words, plain_line, word_line};
-ghost use Rattle.output.specs.Overlay.{Wrote};
+ghost use Rattle.output.specs.Writes.{Put};
 
-use crate::put::{put_decimal, put_register, put_signed};
+use crate::put::{put_number, put_register};
 use executable::segment::Segment;
 use isa::command::Command;
 use isa::operands::Operands;
-use output::put::{put_byte, put_text};
+use output::writer::Writer;
 
 /// Writes a line of a name and a number.
-pub(crate) fn put_number_line(out: &mut [u8], at: usize, name: &[u8], n: u32) -> usize
-    ensures { Wrote out.old at (line_text (number_line name.now n)) result out.new }
+pub(crate) fn put_number_line(writer: &mut Writer<'_>, name: &[u8], number: u32)
+    ensures { Put writer.old (line_text (number_line name.now number)) writer.new }
 {
-    let at = put_text(out, at, name);
-    let at = put_byte(out, at, b' ');
-    let at = put_decimal(out, at, n);
-    put_byte(out, at, b'\n')
+    writer.put(name);
+    put_number(writer, number);
+    writer.put_byte(b'\n');
 }
 
 /// Writes operands, each after a blank.
-fn put_operands(out: &mut [u8], at: usize, operands: Operands) -> usize
-    ensures { Wrote out.old at (flat_map after_blank (operand_words (numbers_in operands))) result out.new }
+fn put_operands(writer: &mut Writer<'_>, operands: Operands)
+    ensures { Put writer.old (flat_map after_blank (operand_words (numbers_in operands))) writer.new }
 {
-    let at = put_byte(out, at, b' ');
     match operands {
         Operands::Rr {
             first,
             source,
             modifier,
         } => {
-            let at = put_register(out, at, first);
-            let at = put_byte(out, at, b' ');
-            let at = put_register(out, at, source);
-            let at = put_byte(out, at, b' ');
-            put_signed(out, at, i32::from(modifier))
+            put_register(writer, first);
+            put_register(writer, source);
+            put_number(writer, modifier);
         }
         Operands::Ri { first, immediate } => {
-            let at = put_register(out, at, first);
-            let at = put_byte(out, at, b' ');
-            put_signed(out, at, immediate.value)
+            put_register(writer, first);
+            put_number(writer, immediate.value);
         }
         Operands::Rm { first, address } => {
-            let at = put_register(out, at, first);
-            let at = put_byte(out, at, b' ');
-            put_decimal(out, at, address.value)
+            put_register(writer, first);
+            put_number(writer, address.value);
         }
-        Operands::J { address } => put_decimal(out, at, address.value),
+        Operands::J { address } => put_number(writer, address.value),
     }
 }
 
 /// Writes the line of a command.
-fn put_command(out: &mut [u8], at: usize, command: Command) -> usize
-    ensures { Wrote out.old at (line_text (plain_line (plain command))) result out.new }
+fn put_command(writer: &mut Writer<'_>, command: Command)
+    ensures { Put writer.old (line_text (plain_line (plain command))) writer.new }
 {
-    let at = put_text(out, at, command.opcode.name());
-    let at = put_operands(out, at, command.operands);
-    put_byte(out, at, b'\n')
+    writer.put(command.opcode.name());
+    put_operands(writer, command.operands);
+    writer.put_byte(b'\n');
 }
 
 /// Writes the line of a word.
-pub(crate) fn put_word(out: &mut [u8], at: usize, segment: Segment, word: u32) -> usize
-    ensures { Wrote out.old at (line_text (word_line segment word)) result out.new }
+pub(crate) fn put_word(writer: &mut Writer<'_>, segment: Segment, word: u32)
+    ensures { Put writer.old (line_text (word_line segment word)) writer.new }
 {
     match segment {
         Segment::Code => match Command::decode(word) {
-            Some(command) => put_command(out, at, command),
-            None => put_number_line(out, at, b"word", word),
+            Some(command) => put_command(writer, command),
+            None => put_number_line(writer, b"word", word),
         },
-        Segment::Constants => put_number_line(out, at, b"uint32", word),
+        Segment::Constants => put_number_line(writer, b"uint32", word),
     }
 }

@@ -1,67 +1,76 @@
 //! What the listing program prints.
 
-ghost use Rattle.std.specs.Prelude.{◌≡◌, ◌≤◌, true, length, take, IfOk};
-ghost use Rattle.listing.specs.Printout.{taken, text_of, refused_text, is_refused};
+ghost use Rattle.std.specs.Prelude.{◌≡◌, ◌≤◌, true, false, length, take, IfOk, IfErr};
+ghost use Rattle.listing.specs.Numbers.{number_of};
+ghost use Rattle.listing.specs.Printout.{taken, text_of, refused_text, is_refused, printed_text, tells_refusal};
 
-use crate::line::put_number_line;
 use crate::list::list;
+use crate::refusal::Refusal;
+use executable::refusal::Refusal::OtherLength;
 use std::alloc::{AllocError, Global};
 
-/// The text that the listing program prints, and whether it tells a refusal.
+/// The most bytes of an input that is listed.
+const MOST: usize = 8192;
+
+/// No listing of such an input is longer.
+const PAGE: usize = 65_536;
+
+/// What the listing program prints for an input.
 #[derive(Drop)]
-pub struct Printed {
-    pub text: Vec<u8>,
-    pub refused: bool,
+pub enum Printed {
+    /// The listing.
+    Listing(Vec<u8>),
+    /// The line that tells a refusal.
+    Refused(Vec<u8>),
 }
 
-/// How much of a page is used, and whether it tells a refusal.
-#[derive(Clone, Copy)]
-struct Page {
-    length: usize,
-    refused: bool,
-}
-
-/// Writes the line of a refusal.
-fn refuse(page: &mut [u8], number: u8) -> Page
-    requires { 65536 ≤ length page.old }
-    ensures text { take result.length page.new ≡ refused_text number }
-    ensures refused { result.refused ≡ true }
-    ensures within { result.length ≤ length page.old }
-{
-    let length = put_number_line(page, 0, b"refused", u32::from(number));
-    Page {
-        length,
-        refused: true,
+impl Printed {
+    /// The text that is printed.
+    pub fn text(&self) -> &[u8]
+        ensures { result.now ≡ printed_text self.now }
+    {
+        match self {
+            Printed::Listing(text) | Printed::Refused(text) => text.as_slice(),
+        }
     }
-}
 
-/// Writes the listing of an input, or the line of its refusal.
-fn fill(page: &mut [u8], input: &[u8]) -> Page
-    requires { 65536 ≤ length page.old }
-    ensures text { take result.length page.new ≡ text_of (taken input.now) }
-    ensures refused { result.refused ≡ is_refused (taken input.now) }
-    ensures within { result.length ≤ length page.old }
-{
-    if input.len() > 8192 {
-        return refuse(page, 25);
-    }
-    match list(input, page) {
-        Ok(length) => Page {
-            length,
-            refused: false,
-        },
-        Err(refusal) => refuse(page, refusal.number()),
+    /// Whether it tells a refusal.
+    pub fn is_refused(&self) -> bool
+        ensures { result ≡ tells_refusal self.now }
+    {
+        matches!(self, Printed::Refused(_))
     }
 }
 
 /// The listing of an input of at most 8,192 bytes, or the line that tells its refusal.
 pub fn printout(heap: Global, input: &[u8]) -> Result<Printed, AllocError>
-    ensures text { IfOk result (λ p. p.text.items ≡ text_of (taken input.now)) }
-    ensures refused { IfOk result (λ p. p.refused ≡ is_refused (taken input.now)) }
+    ensures text { IfOk result (λ p. printed_text p ≡ text_of (taken input.now)) }
+    ensures refused { IfOk result (λ p. tells_refusal p ≡ is_refused (taken input.now)) }
 {
-    let mut page = [0u8; 65536];
-    let used = fill(&mut page, input);
-    let Page { length, refused } = used;
-    let text = Vec::from_slice(heap, &page[0..length])?;
-    Ok(Printed { text, refused })
+    let mut page = vec![in heap; 0u8; PAGE]?;
+    match list_taken(input, &mut page) {
+        Ok(length) => {
+            page.truncate(length);
+            Ok(Printed::Listing(page))
+        }
+        Err(refusal) => {
+            let number = refusal.number();
+            let line = format!(in heap; "refused {number}\n")?;
+            Ok(Printed::Refused(line.into_bytes()))
+        }
+    }
+}
+
+/// Lists an input of at most 8,192 bytes, and refuses a longer one as one of another length.
+fn list_taken(input: &[u8], page: &mut [u8]) -> Result<usize, Refusal>
+    requires { PAGE ≤ length page.old }
+    ensures listed { IfOk result (λ n.
+        (take n page.new ≡ text_of (taken input.now)) × (is_refused (taken input.now) ≡ false)) }
+    ensures refused { IfErr result (λ q.
+        (refused_text (number_of q) ≡ text_of (taken input.now)) × (is_refused (taken input.now) ≡ true)) }
+{
+    if input.len() > MOST {
+        return Err(OtherLength.into());
+    }
+    list(input, page)
 }

@@ -1,40 +1,25 @@
-//! Writing numbers and registers.
+//! Writing numbers and registers, each a word after a blank. Their digits come from `itoa` and not from `write!`: a
+//! listing never fails, and no contract of `fmt::Write` rules its error out.
 
-ghost use Rattle.std.specs.Prelude.{[], ◌∷◌, decimal};
-ghost use Rattle.std.specs.Fmt.{signed_decimal};
-ghost use Rattle.listing.specs.Lines.{register_name};
-ghost use Rattle.output.specs.Overlay.{Wrote};
+ghost use Rattle.listing.specs.Lines.{after_blank, register_name};
+ghost use Rattle.output.specs.Writes.{Put};
 
 use isa::register::Register;
-use output::put::put_byte;
+use itoa::{Buffer, Integer};
+use output::writer::Writer;
 
-/// Writes a number in decimal.
-pub(crate) fn put_decimal(out: &mut [u8], at: usize, n: u32) -> usize
-    ensures { Wrote out.old at (decimal n) result out.new }
+/// Writes a number in decimal after a blank.
+pub(crate) fn put_number<I: Integer>(writer: &mut Writer<'_>, number: I)
+    ensures { Put writer.old (after_blank (I.text number)) writer.new }
 {
-    if n < 10 {
-        return put_byte(out, at, b'0' + n as u8);
-    }
-    let at = put_decimal(out, at, n / 10);
-    put_byte(out, at, b'0' + (n % 10) as u8)
+    writer.put_byte(b' ');
+    writer.put(Buffer::new().format(number).as_bytes());
 }
 
-/// Writes a signed number in decimal.
-pub(crate) fn put_signed(out: &mut [u8], at: usize, z: i32) -> usize
-    ensures { Wrote out.old at (signed_decimal z) result out.new }
+/// Writes a register's name after a blank.
+pub(crate) fn put_register(writer: &mut Writer<'_>, register: Register)
+    ensures { Put writer.old (after_blank (register_name register.number)) writer.new }
 {
-    let size = z.unsigned_abs();
-    if z >= 0 {
-        return put_decimal(out, at, size);
-    }
-    let at = put_byte(out, at, b'-');
-    put_decimal(out, at, size)
-}
-
-/// Writes a register's name.
-pub(crate) fn put_register(out: &mut [u8], at: usize, register: Register) -> usize
-    ensures { Wrote out.old at (register_name register.number) result out.new }
-{
-    let at = put_byte(out, at, b'r');
-    put_decimal(out, at, u32::from(register.number))
+    writer.put(b" r");
+    writer.put(Buffer::new().format(register.number).as_bytes());
 }

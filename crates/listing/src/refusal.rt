@@ -2,6 +2,7 @@
 
 ghost use Rattle.std.specs.Prelude.{◌≡◌};
 ghost use Rattle.listing.specs.Numbers.{number_of};
+ghost use Rattle.listing.specs.declared.refusal.Refusal.TheVariants.{Executable};
 
 /// The question about a listing that gets a no first.
 #[derive(Clone, Copy)]
@@ -21,5 +22,13 @@ impl Refusal {
             Refusal::Executable(refusal) => refusal.number(),
             Refusal::OutputTooShort => 27,
         }
+    }
+}
+
+impl From<executable::refusal::Refusal> for Refusal {
+    ghost from_gives = { λ q r. r ≡ Executable q };
+
+    fn from(cause: executable::refusal::Refusal) -> Refusal {
+        Refusal::Executable(cause)
     }
 }

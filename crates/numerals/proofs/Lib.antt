@@ -1,3 +1,4 @@
 pub mod Caps
+pub mod Folds
 pub mod Round
 pub mod Signs

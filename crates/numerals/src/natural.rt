@@ -1,39 +1,34 @@
 //! Numerals without a sign: `0`, decimal, octal after `0`, hexadecimal after `0x` or `0X`.
 
-ghost use Rattle.std.specs.Prelude.{◌≡◌, ◌≤◌};
+ghost use Rattle.std.specs.Prelude.{◌≡◌, ◌≤◌, [], ◌∷◌};
 ghost use Rattle.std.specs.Option.{option_map};
-ghost use Rattle.numerals.specs.Natural.{worth, digits_in, after_zero, natural, capped};
+ghost use Rattle.numerals.specs.Natural.{go_on, digits_in, after_zero, natural, capped};
 
-/// What a digit is worth, and 99 for a byte that is none.
-fn worth_of(b: u8) -> u8
-    ensures { result ≡ worth b }
+/// Above every range that a numeral is asked about.
+const LIMIT: u64 = 1 << 32;
+
+/// The number that digits write, of which the front writes `value` and the last is `b`, or none where that is no digit.
+fn push_digit(value: u64, b: u8, radix: u32) -> Option<u64>
+    requires { (2 ≤ radix) × (radix ≤ 16) }
+    ensures { result ≡ option_map capped (go_on radix value (b ∷ [])) }
 {
-    match b {
-        b'0'..=b'9' => b - b'0',
-        b'a'..=b'f' => b - b'a' + 10,
-        b'A'..=b'F' => b - b'A' + 10,
-        _ => 99,
-    }
+    let digit = char::from(b).to_digit(radix)?;
+    let longer = value
+        .saturating_mul(u64::from(radix))
+        .saturating_add(u64::from(digit));
+    Some(longer.min(LIMIT))
 }
 
 /// The number that digits write, or none where there is no digit or another byte.
-fn digits(s: &[u8], radix: u8) -> Option<u64>
+fn digits(s: &[u8], radix: u32) -> Option<u64>
     requires { (2 ≤ radix) × (radix ≤ 16) }
     ensures { result ≡ option_map capped (digits_in radix s.now) }
 {
     if s.is_empty() {
         return None;
     }
-    let limit: u64 = 1 << 32;
-    let mut value: u64 = 0;
-    for b in s {
-        let d = worth_of(*b);
-        if d >= radix {
-            return None;
-        }
-        value = (value * radix as u64 + d as u64).min(limit);
-    }
-    Some(value)
+    s.iter()
+        .try_fold(0, |value, b| push_digit(value, *b, radix))
 }
 
 fn after_zero(rest: &[u8]) -> Option<u64>

@@ -1,7 +1,8 @@
 -- One write after another.
-use Rattle.std.proofs.Common.{◌≡◌, ℕ, zero, suc, ◌+◌, ◌-◌, ◌^◌, ◌<◌, ◌≤◌, min, List, [], ◌∷◌, ◌++◌, length, drop, set, sym, refl, ap, ◌∙◌, ⊎_elim, arith, length-append}
+use Rattle.std.proofs.Common.{◌≡◌, ℕ, zero, suc, ◌+◌, ◌-◌, ◌^◌, ◌<◌, ◌≤◌, min, List, [], ◌∷◌, ◌++◌, length, take, drop, set, sym, refl, ap, ◌∙◌, ⊎_elim, arith, length-append}
 use Rattle.std.proofs.lemmas.Bool.{cases_lt}
 use Rattle.std.proofs.lemmas.List.{set_past}
+use borrow.Rule.Slice.PartMut.{put_mid}
 use Rattle.output.specs.Overlay.{overlay, Wrote}
 
 overlay_none : (o : List ℕ) (a : ℕ) → overlay o a [] ≡ o
@@ -37,8 +38,19 @@ overlay_length (c ∷ o) zero [] = refl
 overlay_length (c ∷ o) zero (t ∷ text) = ap suc (overlay_length o zero text)
 overlay_length (c ∷ o) (suc a) text = ap suc (overlay_length o a text)
 
+-- a write of what fits of a text
+pub overlay_part : (o text : List ℕ) (a k : ℕ) → a ≤ length o → k ≡ min (length o - a) (length text) → put_mid a k o (take k text) ≡ overlay o a text
+overlay_part [] text zero zero p e = refl
+overlay_part [] text zero (suc k) p e = absurd (omega arith)
+overlay_part [] text (suc a) k p e = absurd (omega arith)
+overlay_part (c ∷ o) [] zero zero p e = refl
+overlay_part (c ∷ o) [] zero (suc k) p e = absurd (omega arith)
+overlay_part (c ∷ o) (t ∷ text) zero zero p e = absurd (omega arith)
+overlay_part (c ∷ o) (t ∷ text) zero (suc k) p e = ap (λ l. t ∷ l) (overlay_part o text 0 k (omega arith) (omega arith))
+overlay_part (c ∷ o) text (suc a) k p e = ap (λ l. c ∷ l) (overlay_part o text a k (omega arith) (omega arith))
+
 -- nothing is written past the end
-overlay_past : (o : List ℕ) (a : ℕ) (text : List ℕ) → length o ≤ a → overlay o a text ≡ o
+pub overlay_past : (o : List ℕ) (a : ℕ) (text : List ℕ) → length o ≤ a → overlay o a text ≡ o
 overlay_past [] a text h = refl
 overlay_past (c ∷ o) zero text h = absurd (omega arith)
 overlay_past (c ∷ o) (suc a) text h = ap (λ l. c ∷ l) (overlay_past o a text (omega arith))

@@ -2,4 +2,4 @@
 
 #![tactic(auto)]
 
-pub mod put;
+pub mod writer;

@@ -1,5 +1,5 @@
 -- What the calls over listing and assembling answer.
-use Rattle.std.proofs.Common.{◌≡◌, ℕ, ◌<◌, ◌≤◌, Bool, true, List, [], length, take, drop, Some, None, Ok, Err, Decides, Result, sym, ap, ◌∙◌, arith}
+use Rattle.std.proofs.Common.{◌≡◌, ℕ, ◌<◌, ◌≤◌, Bool, true, List, [], length, take, drop, Ok, Err, Decides, Option, Result, sym, ap, ◌∙◌, arith}
 use Rattle.std.specs.Str.{bytes_eq}
 use Rattle.std.proofs.lemmas.Slice.Eq.{bytes_eq-Decides}
 use Rattle.std.proofs.lemmas.List.{take-append-le, take_all}
@@ -13,8 +13,10 @@ use Rattle.listing.specs.declared.refusal.Refusal.TheVariants.{Executable, Outpu
 use Rattle.roundtrip.specs.Laws.{Bytes, Accepted}
 use Rattle.roundtrip.specs.Compared.{of_both, compared}
 use Rattle.roundtrip.specs.Rebuilt.{rebuilt_from, rebuilt, length_of as length_is, written_to}
+use Rattle.roundtrip.specs.declared.refusal.Refusal as refused
 use Rattle.roundtrip.specs.declared.refusal.Refusal.TheVariants as rebuilding
 use Rattle.assembler.specs.Assembled.{assembled, good, answer_of, output_of}
+use Rattle.std.specs.Option.{ok_or}
 use Rattle.std.specs.Result.{result_ok}
 use Rattle.roundtrip.proofs.Back.{roomy, apart}
 
@@ -50,11 +52,8 @@ module _ (bs : List ℕ) (text_room : ℕ) (bytes : Bytes bs) (yes : (q : Refusa
   is_rebuilt : rebuilt bs text_room (length out) ≡ Ok bs
   is_rebuilt = ap (rebuilt_from bs (length out)) (listed_whole bs text_room yes) ∙ cond-true _ _ _ (le-leb (length bs) (length out) fits)
 
-  pub rebuilt_length : (n : ℕ) → Some n ≡ result_ok (answer_of (assembled t 0 (length out))) → Ok n ≡ length_is (rebuilt bs text_room (length out))
-  rebuilt_length n e = let s : Some n ≡ Some (length bs) = e ∙ ap (λ a. result_ok (answer_of a)) again in let k : n ≡ length bs = cc in ap Ok k ∙ sym (ap length_is is_rebuilt)
-
-  pub never_none : None ≡ result_ok (answer_of (assembled t 0 (length out))) → ⊥
-  never_none e = let s : None ≡ Some (length bs) = e ∙ ap (λ a. result_ok (answer_of a)) again in let z : ◌≡◌ {A = ℕ} 0 1 = cc in omega arith
+  pub rebuilt_value : (o : Option ℕ) (q : refused.Refusal) → o ≡ result_ok (answer_of (assembled t 0 (length out))) → ok_or o q ≡ length_is (rebuilt bs text_room (length out))
+  rebuilt_value o q e = ap (λ x. ok_or x q) (e ∙ ap (λ a. result_ok (answer_of a)) again) ∙ sym (ap length_is is_rebuilt)
 
   pub rebuilt_output : (result : List ℕ) → result ≡ output_of (assembled t 0 (length out)) out → result ≡ written_to out (rebuilt bs text_room (length out))
   rebuilt_output result e = e ∙ ap (λ a. output_of a out) again ∙ sym (ap (written_to out) is_rebuilt)

@@ -15,7 +15,7 @@ use Rattle.assembler.specs.Questions.{is, code_words, data_words, of_operands, i
 use Rattle.assembler.specs.Statements.{Meant, code, constant, stack, end}
 use Rattle.assembler.specs.declared.mnemonic.Mnemonic.{Mnemonic}
 use Rattle.assembler.specs.declared.mnemonic.Mnemonic.TheVariants.{Uint32, Stack, End}
-use Rattle.assembler.specs.declared.progress.Progress.{Progress}
+use Rattle.assembler.specs.Progress.{Progress}
 use Rattle.roundtrip.proofs.Coded.{word_says}
 use Rattle.roundtrip.proofs.Says.{Says, saying, says_constant, says_end, says_stack}
 

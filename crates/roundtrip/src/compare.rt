@@ -20,12 +20,7 @@ pub fn have_equal_listings(
     ensures left { text.new ≡ output_after (listed left.now (length text.old)) text.old }
     ensures right { other.new ≡ second_after (listed left.now (length text.old)) (listed right.now (length other.old)) other.old }
 {
-    let length = match list(left, text) {
-        Ok(length) => length,
-        Err(refusal) => return Err(refusal),
-    };
-    match list(right, other) {
-        Ok(count) => Ok(front(text, length) == front(other, count)),
-        Err(refusal) => Err(refusal),
-    }
+    let length = list(left, text)?;
+    let count = list(right, other)?;
+    Ok(front(text, length) == front(other, count))
 }

@@ -24,10 +24,7 @@ fn assemble_listing(text: &[u8], out: &mut [u8]) -> Option<usize>
         address: 0,
     }; 0];
     let mut labels = BoundedList::new(&mut none);
-    match assemble(text, &mut labels, out) {
-        Ok(length) => Some(length),
-        Err(_) => None,
-    }
+    assemble(text, &mut labels, out).ok()
 }
 
 /// Lists an executable into `text` and assembles the listing into `out`: the same executable, whose length is answered.
@@ -36,15 +33,9 @@ pub fn rebuild(bytes: &[u8], text: &mut [u8], out: &mut [u8]) -> Result<usize, R
     ensures text { text.new ≡ output_after (listed bytes.now (length text.old)) text.old }
     ensures output { out.new ≡ written_to out.old (rebuilt bytes.now (length text.old) (length out.old)) }
 {
-    let length = match list(bytes, text) {
-        Ok(length) => length,
-        Err(refusal) => return Err(Refusal::Listing(refusal)),
-    };
+    let length = list(bytes, text)?;
     if bytes.len() > out.len() {
         return Err(Refusal::OutputTooShort);
     }
-    match assemble_listing(front(text, length), out) {
-        Some(length) => Ok(length),
-        None => Err(Refusal::OutputTooShort),
-    }
+    assemble_listing(front(text, length), out).ok_or(Refusal::OutputTooShort)
 }

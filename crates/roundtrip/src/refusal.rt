@@ -2,6 +2,7 @@
 
 ghost use Rattle.std.specs.Prelude.{◌≡◌};
 ghost use Rattle.roundtrip.specs.Rebuilt.{number_of};
+ghost use Rattle.roundtrip.specs.declared.refusal.Refusal.TheVariants.{Listing};
 
 /// The question about rebuilding that gets a no first.
 #[derive(Clone, Copy)]
@@ -21,5 +22,13 @@ impl Refusal {
             Refusal::Listing(refusal) => refusal.number(),
             Refusal::OutputTooShort => 13,
         }
+    }
+}
+
+impl From<listing::refusal::Refusal> for Refusal {
+    ghost from_gives = { λ q r. r ≡ Listing q };
+
+    fn from(cause: listing::refusal::Refusal) -> Refusal {
+        Refusal::Listing(cause)
     }
 }

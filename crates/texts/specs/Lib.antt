@@ -1,3 +1,2 @@
 pub mod Marks
 pub mod Meant
-pub mod Sum

@@ -18,7 +18,6 @@
 
 mod bytes;
 mod marks;
-mod sum;
 
 use anyhow::Context;
 use assembler::assemble::assemble;
@@ -26,10 +25,12 @@ use assembler::label::Label;
 use assembler::question::Refusal;
 use bounded::list::BoundedList;
 use bytes::push_token;
-use marks::{filler, is_untouched, sum_labels};
+use cases::filled::is_filled;
+use cases::sum::checksum;
+use cases::words::next_word;
+use marks::{filler, sum_labels};
 use roundtrip::rebuild::rebuild;
 use std::io::{BufRead, BufReader};
-use sum::{checksum, is_filled};
 
 /// The case of a line: its name, the label list's maximum, the output's length, and the text.
 #[derive(Drop)]
@@ -43,18 +44,12 @@ struct Case {
 fn read_case(rt: &HostRuntime, line: &str) -> anyhow::Result<Case> {
     let heap = rt.alloc();
     let mut words = line.split_whitespace();
-    let name = words.next().context("a case has no name")?.to_string(heap)?;
-    let labels = words
-        .next()
-        .context("a case has no labels")?
-        .parse::<usize>()?;
-    let room = words
-        .next()
-        .context("a case has no room")?
-        .parse::<usize>()?;
+    let name = next_word(&mut words, "name")?.to_string(heap)?;
+    let labels = next_word(&mut words, "labels")?.parse::<usize>()?;
+    let room = next_word(&mut words, "room")?.parse::<usize>()?;
     let mut text = Vec::new(heap);
     for token in words {
-        push_token(&mut text, token)?;
+        push_token(heap, &mut text, token)?;
     }
     Ok(Case {
         name,
@@ -111,7 +106,7 @@ fn run_case(rt: &HostRuntime, case: &Case) -> anyhow::Result<()> {
         .as_slice()
         .split_at_checked(count)
         .context("the labels are past the list")?;
-    let rest = if is_filled(past) && is_untouched(free) {
+    let rest = if is_filled(past, &7) && is_filled(free, &filler()) {
         "untouched"
     } else {
         "written"

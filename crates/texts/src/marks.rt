@@ -1,10 +1,10 @@
 //! The entries of the label list that a case lends.
 
 ghost use Rattle.std.specs.Prelude.{◌≡◌};
-ghost use Rattle.texts.specs.Marks.{filler_label, is_filler, all_fillers, added_label, label_sum_of};
-ghost use Rattle.texts.specs.Sum.{added};
+ghost use Rattle.texts.specs.Marks.{filler_label, added_label, label_sum_of};
 
 use assembler::label::{Label, Place};
+use cases::sum::add;
 
 /// The entry that a lent list is filled with.
 pub(crate) fn filler() -> Label
@@ -17,50 +17,18 @@ pub(crate) fn filler() -> Label
     }
 }
 
-/// Whether an entry is the filler.
-fn is_filler(label: Label) -> bool
-    ensures { result ≡ is_filler label }
-{
-    label.place.offset == 7 && label.length == 7 && label.address == 7
-}
-
-/// Whether every entry is the filler.
-pub(crate) fn is_untouched(labels: &[Label]) -> bool
-    ensures { result ≡ all_fillers labels.now }
-{
-    for label in labels {
-        if !is_filler(*label) {
-            return false;
-        }
-    }
-    true
-}
-
-/// The sum with a number more.
-fn add(sum: u32, number: usize) -> u32
-    ensures { result ≡ added sum number }
-{
-    sum.wrapping_mul(31)
-        .wrapping_add((number % 4_294_967_296) as u32)
-}
-
 /// The sum with the three numbers of a label more.
 fn add_label(sum: u32, label: Label) -> u32
     ensures { result ≡ added_label sum label }
 {
-    add(
-        add(add(sum, label.place.offset), label.length),
-        label.address as usize,
-    )
+    let sum = add(sum, label.place.offset as u64);
+    let sum = add(sum, label.length as u64);
+    add(sum, u64::from(label.address))
 }
 
 /// The 32-bit sum in which each number of each label is added to 31 times what came before it.
 pub(crate) fn sum_labels(labels: &[Label]) -> u32
     ensures { result ≡ label_sum_of labels.now }
 {
-    let mut sum = 0u32;
-    for label in labels {
-        sum = add_label(sum, *label);
-    }
-    sum
+    labels.iter().fold(0, |sum, label| add_label(sum, *label))
 }

@@ -7,16 +7,14 @@
 //!
 //! Numbers are hexadecimal, and `*N` after one repeats it N times (decimal).
 
-ghost use Rattle.std.specs.Prelude.{◌≡◌, ◌+◌, ◌*◌, vec_len, OnOk};
-
 use anyhow::Context;
+use cases::bytes::push_times;
 
 /// Appends the bytes of a token.
 pub(crate) fn push_token(bytes: &mut Vec<u8>, token: &str) -> anyhow::Result<()> {
     let (kind, rest) = token.split_once(':').context("a token has no kind")?;
     if kind == "t" {
-        bytes.extend_from_slice(rest.as_bytes())?;
-        return Ok(());
+        return push_times(bytes, rest.as_bytes(), 1);
     }
     let (number, times) = match rest.split_once('*') {
         Some((number, times)) => (number, times.parse::<u32>()?),
@@ -24,29 +22,8 @@ pub(crate) fn push_token(bytes: &mut Vec<u8>, token: &str) -> anyhow::Result<()>
     };
     let value = u32::from_str_radix(number, 16)?;
     if kind == "w" {
-        push_words(bytes, value, times)
+        push_times(bytes, &value.to_le_bytes(), times)
     } else {
-        push_bytes(bytes, u8::try_from(value)?, times)
+        push_times(bytes, &[u8::try_from(value)?], times)
     }
-}
-
-/// Appends a byte some times.
-fn push_bytes(bytes: &mut Vec<u8>, byte: u8, times: u32) -> anyhow::Result<()>
-    ensures { OnOk result (vec_len bytes.new ≡ vec_len bytes.old + times) }
-{
-    for _ in 0..times {
-        bytes.push(byte)?;
-    }
-    Ok(())
-}
-
-/// Appends the bytes of a word some times.
-fn push_words(bytes: &mut Vec<u8>, word: u32, times: u32) -> anyhow::Result<()>
-    ensures { OnOk result (vec_len bytes.new ≡ vec_len bytes.old + 4 * times) }
-{
-    let quad = word.to_le_bytes();
-    for _ in 0..times {
-        bytes.extend_from_slice(&quad)?;
-    }
-    Ok(())
 }

@@ -11,33 +11,31 @@
 #![tactic(auto)]
 
 mod bytes;
-mod sum;
+mod show;
 
-use anyhow::Context;
 use bytes::push_token;
+use cases::sum::checksum;
+use cases::words::next_word;
 use listing::list::list;
 use listing::printout::printout;
+use show::Show;
 use std::io::{BufRead, BufReader, Write};
-use sum::checksum;
 
 /// The case of a line: its name, the output's length, how it is shown, and the bytes.
 #[derive(Drop)]
 struct Case {
     name: String,
     room: usize,
-    show: String,
+    show: Show,
     bytes: Vec<u8>,
 }
 
 fn read_case(rt: &HostRuntime, line: &str) -> anyhow::Result<Case> {
     let heap = rt.alloc();
     let mut words = line.split_whitespace();
-    let name = words.next().context("a case has no name")?.to_string(heap)?;
-    let room = words
-        .next()
-        .context("a case has no room")?
-        .parse::<usize>()?;
-    let show = words.next().context("a case has no show")?.to_string(heap)?;
+    let name = next_word(&mut words, "name")?.to_string(heap)?;
+    let room = next_word(&mut words, "room")?.parse::<usize>()?;
+    let show = Show::from(next_word(&mut words, "show")?);
     let mut bytes = Vec::new(heap);
     for token in words {
         push_token(&mut bytes, token)?;
@@ -63,7 +61,7 @@ fn run_case(rt: &HostRuntime, case: &Case) -> anyhow::Result<()> {
         Ok(length) => {
             let whole = checksum(out.as_slice());
             println!(rt; "{name}: length {length} output {whole}")?;
-            if case.show.as_str() == "text" && length <= out.len() {
+            if case.show == Show::Text && length <= out.len() {
                 rt.stdout().write_all(&out.as_slice()[0..length])?;
             }
         }
@@ -75,10 +73,11 @@ fn run_case(rt: &HostRuntime, case: &Case) -> anyhow::Result<()> {
 fn run_printout(rt: &HostRuntime, case: &Case) -> anyhow::Result<()> {
     let name = case.name.as_str();
     let printed = printout(rt.alloc(), case.bytes.as_slice())?;
-    let length = printed.text.len();
-    let status = if printed.refused { 1 } else { 0 };
+    let text = printed.text();
+    let length = text.len();
+    let status = if printed.is_refused() { 1 } else { 0 };
     println!(rt; "{name}: prints {length} status {status}")?;
-    rt.stdout().write_all(printed.text.as_slice())?;
+    rt.stdout().write_all(text)?;
     Ok(())
 }
 
@@ -86,10 +85,9 @@ fn main(rt: HostRuntime) -> anyhow::Result<()> {
     for line in BufReader::new(rt.alloc(), rt.stdin())?.lines(rt.alloc()) {
         let text = line?;
         let case = read_case(&rt, text.as_str())?;
-        if case.show.as_str() == "printout" {
-            run_printout(&rt, &case)?;
-        } else {
-            run_case(&rt, &case)?;
+        match case.show {
+            Show::Printout => run_printout(&rt, &case)?,
+            Show::Text | Show::Sum => run_case(&rt, &case)?,
         }
     }
     Ok(())

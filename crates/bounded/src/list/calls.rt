@@ -61,12 +61,7 @@ impl<'a, T: Copy> BoundedList<'a, T> {
     pub fn get(&self, place: usize) -> Option<T>
         ensures { result ≡ slice_get (entries self.now) place }
     {
-        let held = self.as_slice();
-        if place < held.len() {
-            Some(held[place])
-        } else {
-            None
-        }
+        self.as_slice().get(place).copied()
     }
 
     /// The entries.

@@ -1,4 +1,4 @@
-use Rattle.std.proofs.Common.{refl, rules}
+use Rattle.std.proofs.Common.{refl}
 use Rattle.std.specs.Fmt.{digits}
 use Rattle.assembler.specs.Mnemonics.{mnemonic_of}
 use Rattle.figures.specs.Figures.{Figures}
@@ -8,5 +8,5 @@ all : Figures
 unfolding digits mnemonic_of
 all = record { mov = refl; lc = refl; calli = refl; halt = refl; mov_line = refl; lc_line = refl; calli_line = refl; halt_line = refl; jmp_bits = refl; jmp_bits_line = refl; assembles = refl; lists = refl }
 
-pub returns : goal.returns
-returns c = record { words = search rules; figures = all }
+pub returns-clause-figures : goal.returns-clause-figures
+returns-clause-figures c = all

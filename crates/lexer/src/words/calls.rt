@@ -1,87 +1,96 @@
 //! Going through the words of a line.
 
-ghost use Rattle.std.specs.Prelude.{◌≡◌, ◌+◌, min, true, false, length, take, drop, IfSome};
+ghost use Rattle.std.specs.Prelude.{◌≡◌, ℕ, ◌+◌, true, false, List, [], ⊤, is_some, IfSome, IfNone, MatchOption, if◌then◌else◌};
 ghost use Rattle.std.specs.Option.{option_map};
-ghost use Rattle.std.specs.List.{between};
-ghost use Rattle.lexer.specs.Cursor.{part, words_in, past_word, Begins};
+ghost use Rattle.lexer.specs.Cursor.{words_in, kinds_in, past_word, Begins, SplitFirst};
 ghost use Rattle.lexer.specs.Divided.{Divided};
-ghost use Rattle.lexer.specs.Text.{spelled, tail_of, blanks};
-ghost use Rattle.lexer.specs.Shown.{shown, bytes_of, tell, first_told, first_shown};
+ghost use Rattle.lexer.specs.Parts.{StandsAt};
+ghost use Rattle.lexer.specs.Text.{tail_of, blanks};
+ghost use Rattle.lexer.specs.Shown.{shown, bytes_of, tell, told_label, first_told, first_shown};
 
-use crate::inside::{Inside, count_blanks, word_len};
+use crate::inside::split_word;
 use crate::lines::Line;
-use crate::word::{Told, sort};
+use crate::word::{LineLabel, Token, kind_of};
 use crate::words::Words;
 
-/// How many words a line has.
-fn count_words(line: &[u8]) -> usize
-    ensures { result ≡ length (spelled Inside.Gap line.now) }
-{
-    let mut count = 0;
-    let mut rest = line;
-    loop {
-        let skipped = count_blanks(rest);
-        if skipped >= rest.len() {
-            return count;
+impl<'a> Line<'a> {
+    /// The words of the line.
+    #[tactic(auto, using(crate::proofs::Divides::divides, crate::proofs::Stands::few_words))]
+    pub fn words(self) -> Words<'a>
+        ensures begins { Begins self.entry result }
+        ensures divided { Divided self.entry.code.now (words_in result) }
+    {
+        Words {
+            rest: self.code,
+            place: self.place,
+            line: self.number,
         }
-        let from = &rest[skipped..];
-        rest = &from[word_len(from)..];
-        count += 1;
     }
 }
 
 impl<'a> Words<'a> {
-    /// The words of a line of a text. What a line has past the text is left out.
-    pub fn new(text: &'a [u8], line: Line) -> Words<'a>
-        ensures begins { Begins text.now line result }
-        ensures divided { Divided (part result) (words_in result) }
+    /// The first word, its place, and the words after it.
+    fn split_first(self) -> Option<(usize, &'a [u8], Words<'a>)>
+        ensures { MatchOption result ((words_in self.entry ≡ []) × (past_word self.entry ≡ self.entry.place)) (λ w. SplitFirst self.entry w.0 w.1.now w.2) }
     {
-        let end = line.end.min(text.len());
-        let at = line.start.min(end);
-        Words {
-            text,
-            at,
-            end,
-            line: line.number,
-            fresh: true,
-        }
-    }
-
-    /// How many words are still to come.
-    pub fn count(&self) -> usize
-        ensures { result ≡ length (words_in self.now) }
-    {
-        count_words(&self.text[self.at..self.end])
-    }
-
-    /// The next word, if there is one.
-    pub fn next(&mut self) -> Option<Told<'a>>
-        ensures told { tell result ≡ first_told self.old.line self.old.fresh (self.old.at + blanks (part self.old)) (words_in self.old) }
-        ensures kind { option_map (λ t. shown t.word) result ≡ first_shown self.old.fresh (words_in self.old) }
-        ensures left { words_in self.new ≡ tail_of (words_in self.old) }
-        ensures at { self.new.at ≡ past_word self.old }
-        ensures end { self.new.end ≡ self.old.end }
-        ensures line { self.new.line ≡ self.old.line }
-        ensures fresh { self.new.fresh ≡ false }
-        ensures text { self.new.text.now ≡ self.old.text.now }
-        ensures stands { IfSome result (λ t. take (length (bytes_of (shown t.word))) (drop t.place self.old.text.now) ≡ bytes_of (shown t.word)) }
-    {
-        let fresh = self.fresh;
-        self.fresh = false;
-        let rest = &self.text[self.at..self.end];
-        let skipped = count_blanks(rest);
-        if skipped >= rest.len() {
-            return None;
-        }
-        let from = &rest[skipped..];
-        let len = word_len(from);
-        let word = sort(fresh, &from[0..len]);
-        let place = self.at + skipped;
-        self.at = place + len;
-        Some(Told {
+        let (skipped, word, rest) = split_word(self.rest)?;
+        let place = self.place + skipped;
+        let after = Words {
+            rest,
+            place: place + word.len(),
             line: self.line,
+        };
+        Some((place, word, after))
+    }
+
+    /// Takes the next word if it ends in a colon: the label that a line may begin with.
+    pub fn take_label(&mut self) -> Option<LineLabel<'a>>
+        ensures told { option_map (λ l. (l.line, l.place, l.name.now)) result ≡ told_label (first_told self.old.line true (self.old.place + blanks self.old.rest.now) (words_in self.old)) }
+        ensures left { words_in self.new ≡ (if is_some result then tail_of (words_in self.old) else words_in self.old) }
+        ensures unchanged { IfNone result (self.new ≡ self.old) }
+        ensures place { self.new.place ≡ (if is_some result then past_word self.old else self.old.place) }
+        ensures line { self.new.line ≡ self.old.line }
+        ensures stands { (text : List ℕ) → StandsAt text self.old.place self.old.rest.now → IfSome result (λ l. StandsAt text l.place l.name.now) }
+        ensures still { (text : List ℕ) → StandsAt text self.old.place self.old.rest.now → StandsAt text self.new.place self.new.rest.now }
+    {
+        let (place, word, after) = self.split_first()?;
+        let [name @ .., b':'] = word else {
+            return None;
+        };
+        let line = self.line;
+        *self = after;
+        Some(LineLabel { line, place, name })
+    }
+}
+
+impl<'a> Iterator for Words<'a> {
+    ghost use Rattle.std.specs.Iterator.{YieldsFirstBy, MakesProgress, item_count};
+
+    type Item = Token<'a>;
+
+    ghost next_gives = { YieldsFirstBy (λ t. shown t.word) kinds_in };
+
+    ghost remaining = { item_count kinds_in };
+
+    #[tactic(auto, using(crate::proofs::Stands::kind_bytes))]
+    fn next(&mut self) -> Option<Token<'a>>
+        ensures steps { YieldsFirstBy (λ t. shown t.word) kinds_in self.old result self.new }
+        ensures goes { MakesProgress (λ _. ⊤) (item_count kinds_in) self.old result self.new }
+        ensures told { tell result ≡ first_told self.old.line false (self.old.place + blanks self.old.rest.now) (words_in self.old) }
+        ensures kind { option_map (λ t. shown t.word) result ≡ first_shown false (words_in self.old) }
+        ensures left { words_in self.new ≡ tail_of (words_in self.old) }
+        ensures place { self.new.place ≡ past_word self.old }
+        ensures line { self.new.line ≡ self.old.line }
+        ensures stands { (text : List ℕ) → StandsAt text self.old.place self.old.rest.now → IfSome result (λ t. StandsAt text t.place (bytes_of (shown t.word))) }
+        ensures still { (text : List ℕ) → StandsAt text self.old.place self.old.rest.now → StandsAt text self.new.place self.new.rest.now }
+    {
+        let (place, word, after) = self.split_first()?;
+        let line = self.line;
+        *self = after;
+        Some(Token {
+            line,
             place,
-            word,
+            word: kind_of(word),
         })
     }
 }

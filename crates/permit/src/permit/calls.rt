@@ -1,6 +1,6 @@
 //! Reading and changing a permit. Each change touches one part.
 
-ghost use Rattle.std.specs.Prelude.{◌≡◌, ℕ, ◌<◌, ◌≤◌, Decides, nat_le, slice_index_or};
+ghost use Rattle.std.specs.Prelude.{◌≡◌, ℕ, ◌<◌, ◌≤◌, Decides, slice_index_or};
 ghost use Rattle.permit.specs.Levels.{number_of};
 ghost use Rattle.permit.specs.Open.{AsOpen};
 ghost use Rattle.permit.specs.Rights.{rights_of, new_rights, register_level, segment_level, register_in_range, segment_in_range, stack_in_range, register_set, segment_set, stack_set, answer};
@@ -11,23 +11,14 @@ use crate::refusal::Refusal;
 use executable::segment::Segment;
 use isa::register::Register;
 
-/// Whether a level is at least as open as another.
-fn is_open(level: Level, other: Level) -> bool
-    ensures { result ≡ nat_le (number_of level) (number_of other) }
-{
-    level.number() <= other.number()
-}
-
 /// Whether each of 16 levels is at least as open as the other at its place.
 fn are_open(levels: &[Level; 16], others: &[Level; 16]) -> bool
     ensures { Decides result ((k : ℕ) → k < 16 → number_of (slice_index_or levels.now k Level.Open) ≤ number_of (slice_index_or others.now k Level.Open)) }
 {
-    for i in 0..16 {
-        if !is_open(levels[i], others[i]) {
-            return false;
-        }
-    }
-    true
+    levels
+        .iter()
+        .zip(others)
+        .all(|(level, other)| level <= other)
 }
 
 impl Permit {
@@ -47,7 +38,7 @@ impl Permit {
     pub fn register_level(&self, register: Register) -> Level
         ensures { number_of result ≡ register_level (rights_of self.now) register.number }
     {
-        self.registers[register.number as usize]
+        self.registers[usize::from(register.number)]
     }
 
     /// The level of a segment.
@@ -64,8 +55,7 @@ impl Permit {
     pub fn stack_maximum(&self) -> u32
         ensures { result ≡ (rights_of self.now).stack }
     {
-        let Permit { stack, .. } = self;
-        *stack
+        self.stack
     }
 
     /// Sets the level of a register, both by their numbers.
@@ -73,13 +63,8 @@ impl Permit {
         ensures value { result ≡ answer (register_in_range register level) }
         ensures after { rights_of self.new ≡ register_set register level (rights_of self.old) }
     {
-        if register >= 16 {
-            return Err(Refusal::OutOfRange);
-        }
-        let Some(level) = Level::from_number(level) else {
-            return Err(Refusal::OutOfRange);
-        };
-        self.registers[register as usize] = level;
+        let target = Register::new(register.try_into()?).ok_or(Refusal::OutOfRange)?;
+        self.registers[usize::from(target.number)] = Level::try_from(level)?;
         Ok(())
     }
 
@@ -88,9 +73,7 @@ impl Permit {
         ensures value { result ≡ answer (segment_in_range segment level) }
         ensures after { rights_of self.new ≡ segment_set segment level (rights_of self.old) }
     {
-        let Some(level) = Level::from_number(level) else {
-            return Err(Refusal::OutOfRange);
-        };
+        let level = Level::try_from(level)?;
         match segment {
             0 => self.code = level,
             1 => self.constants = level,
@@ -104,10 +87,11 @@ impl Permit {
         ensures value { result ≡ answer (stack_in_range words) }
         ensures after { rights_of self.new ≡ stack_set words (rights_of self.old) }
     {
+        let words = u32::try_from(words)?;
         if words > 1_048_576 {
             return Err(Refusal::OutOfRange);
         }
-        self.stack = words as u32;
+        self.stack = words;
         Ok(())
     }
 
@@ -115,15 +99,9 @@ impl Permit {
     pub fn is_as_open_as(&self, other: &Permit) -> bool
         ensures { Decides result (AsOpen (rights_of other.now) (rights_of self.now)) }
     {
-        if !is_open(self.code, other.code) {
-            return false;
-        }
-        if !is_open(self.constants, other.constants) {
-            return false;
-        }
-        if self.stack < other.stack {
-            return false;
-        }
-        are_open(&self.registers, &other.registers)
+        self.code <= other.code
+            && self.constants <= other.constants
+            && self.stack >= other.stack
+            && are_open(&self.registers, &other.registers)
     }
 }

@@ -14,7 +14,6 @@ returns c =
       value = says.value;
       labels = says.labels;
       output = says.output;
-      past = says.past;
-      lender = says.lender;
+      rest = says.rest;
       first = subst (ExactlyFirstNo t cap len) (sym says.value) (exactly t cap len);
     }

@@ -1,22 +1,29 @@
-use Rattle.std.proofs.Common.{◌≡◌, ◌+◌, ◌-◌, length, take, drop, sym, ap, ◌∙◌, arith}
+use Rattle.std.proofs.Common.{◌+◌, length, sym, ap, ◌∙◌, arith}
+use Rattle.std.specs.Bool.{then_some}
 use Rattle.std.specs.Option.{option_map}
-use Rattle.std.proofs.lemmas.List.{take_rest, length-drop}
+use Rattle.std.specs.Str.{bytes_eq}
 use Rattle.assembler.specs.Characters.{until_quote}
-use Rattle.assembler.proofs.Strings.{count_start, count_more}
+use Rattle.assembler.proofs.Strings.{count_start, count_more, splits_some, splits_none}
 use Rattle.assembler.proofs.characters.count_rest.Goals as goal
 
-pub loop-taken-init : goal.loop-taken-init
-loop-taken-init c = (omega arith, count_start (until_quote c.args.rest.now))
+pub loop-after-init : goal.loop-after-init
+loop-after-init c = record { few = omega arith; value = count_start (until_quote c.args.rest.now) }
 
-pub loop-taken-preserved : goal.loop-taken-preserved
-loop-taken-preserved c =
-    let left = c.loop-taken.left.now in
-    let n = c.in-Character.taken in
-    let says = c.in-Character.ensures in
-    let is = take_rest left n in
-    let long : length (take (length left - n) (drop n left)) ≡ length left - n = ap length is ∙ length-drop n left in (
-      omega (arith, long, says.1, says.2, c.loop-taken.invariant.0),
-      ap (λ l. option_map (λ cs. c.loop-taken.count + 1 + length cs) (until_quote l)) is
-          ∙ sym (count_more c.loop-taken.count c.in-Character.value (until_quote (drop n left)))
-          ∙ sym (ap (option_map (λ cs. c.loop-taken.count + length cs)) says.0) ∙ c.loop-taken.invariant.1,
-    )
+pub loop-after-smaller : goal.loop-after-smaller
+loop-after-smaller c = (splits_some c.loop-after.left.now c.in-Some.after.now c.in-Some.field-0-0 c.in-Some.ensures).1
+
+pub loop-after-preserved : goal.loop-after-preserved
+loop-after-preserved c =
+    let is = splits_some c.loop-after.left.now c.in-Some.after.now c.in-Some.field-0-0 c.in-Some.ensures in
+    record {
+      few = omega (arith, is.1);
+      value =
+          sym (count_more c.loop-after.count c.in-Some.field-0-0 (until_quote c.in-Some.after.now))
+          ∙ sym (ap (option_map (λ cs. c.loop-after.count + length cs)) is.0) ∙ c.loop-after.invariant.value;
+    }
+
+pub returns : goal.returns
+returns c =
+    let left = c.loop-after.left.now in
+    c.then_some.ensures ∙ ap (λ b. then_some b c.loop-after.count) (c.eq.ensures ∙ ap (bytes_eq left) c.as_slice.ensures)
+    ∙ splits_none left c.loop-after.count c.in_default.ensures ∙ c.loop-after.invariant.value

@@ -1,11 +1,10 @@
-use Rattle.std.proofs.Common.{◌≡◌, ◌+◌, length}
-use Rattle.lexer.specs.Cursor.{lines_in}
-use Rattle.lexer.specs.Text.{lines_of}
-use Rattle.assembler.specs.Emit.{lost_from}
+use Rattle.std.proofs.Common.{◌≡◌}
+use Rattle.lexer.specs.Cursor.{numbered_in}
+use Rattle.lexer.specs.Text.{lines_of, numbered}
+use Rattle.assembler.proofs.Numbered.{lost_in_lines}
 use Rattle.assembler.proofs.emit.find_lost.Given as goal
 
-abbrev pub invariant-loop-said : goal.invariant-loop-said
-invariant-loop-said l = (lost_from l.text l.labels (l.lines.line + 1) (lines_in l.lines) ≡ lost_from l.text l.labels 1 (lines_of l.text)) × (l.lines.text.now ≡ l.text)
-
-abbrev pub decreases-loop-said : goal.decreases-loop-said
-decreases-loop-said l = length (lines_in l.lines)
+abbrev pub invariant-loop-line : goal.invariant-loop-line
+invariant-loop-line l =
+    lost_in_lines l.symbols.text.now l.symbols.labels.now (numbered_in l.line-iterator)
+    ≡ lost_in_lines l.symbols.text.now l.symbols.labels.now (numbered 1 0 (lines_of l.symbols.text.now))

@@ -1,29 +1,30 @@
-use Rattle.std.proofs.Common.{◌+◌, ◌^◌, ◌<◌, length, sym, subst, arith}
+use Rattle.std.proofs.Common.{◌++◌, sym, ap, ◌∙◌, subst}
 use Rattle.std.specs.List.{flat_map}
 use Rattle.std.specs.Option.{option_map}
-use Rattle.lexer.specs.Cursor.{lines_in}
-use Rattle.output.specs.Overlay.{Wrote}
-use Rattle.output.proofs.Writes.{wrote_none}
-use Rattle.assembler.specs.Emit.{four_bytes}
+use Rattle.lexer.specs.Cursor.{numbered_in}
+use Rattle.lexer.specs.Text.{lines_of}
+use Rattle.output.specs.Writes.{Put}
+use Rattle.output.proofs.Puts.{put_none, put_then}
+use Rattle.assembler.specs.Emit.{four_bytes, put_by}
 use Rattle.assembler.specs.Statements.{meant}
-use Rattle.assembler.proofs.Emission.{line_then, words_end}
+use Rattle.assembler.proofs.Emission.{joined_append}
+use Rattle.assembler.proofs.Numbered.{words_in_lines, words_are}
 use Rattle.assembler.proofs.emit.put_words.Goals as goal
 
-pub loop-said-preserved : goal.loop-said-preserved
-loop-said-preserved c =
-    let next = c.in-Some.ensures in
-    let said = c.in-Some.said in
-    let small : length c.loop-said.out < 2 ^ 64 = omega arith in (
-      λ r o h.
-          c.loop-said.invariant.0 r o
-          (line_then c.args.text.now c.args.labels.now (c.loop-said.lines.line + 1) said.line (option_map meant said.statement) (lines_in c.loop-said.lines) (lines_in c.next_said.new.lines) c.loop-said.out c.put_statement-end.new.out o
-          c.loop-said.end c.put_statement-end.result r small next.said next.left c.put_statement-end.ensures h),
-      next.text,
-      c.put_statement-end.type_inv,
-    )
+pub loop-line-preserved : goal.loop-line-preserved
+loop-line-preserved c = λ w h.
+    let t = c.args.symbols.text.now in
+    let ls = c.args.symbols.labels.now in
+    let rest = words_in_lines t ls (numbered_in c.next.new.self) in
+    let said = option_map meant c.statement_of.result in
+    let on = ap (λ x. flat_map four_bytes (words_in_lines t ls x)) c.in-Some.ensures.steps ∙ ap (λ x. flat_map four_bytes (put_by t ls x ++ rest)) (sym c.statement_of.ensures) ∙ joined_append four_bytes (put_by t ls said) rest in
+    c.loop-line.invariant w (subst (λ x. Put c.loop-line.writer x w) (sym on) (put_then c.put_statement.ensures h))
 
 pub returns : goal.returns
 returns c =
-    let end = words_end c.args.text.now c.args.labels.now (c.loop-said.lines.line + 1) (lines_in c.loop-said.lines) c.in_default.ensures.said in
-    c.loop-said.invariant.0 c.loop-said.end c.loop-said.out
-    (subst (λ ws. Wrote c.loop-said.out c.loop-said.end (flat_map four_bytes ws) c.loop-said.end c.loop-said.out) (sym end) (wrote_none c.loop-said.out c.loop-said.end c.loop-said.invariant.2))
+    let t = c.args.symbols.text.now in
+    let ls = c.args.symbols.labels.now in
+    let none = ap (λ x. flat_map four_bytes (words_in_lines t ls x)) c.in-None.ensures.steps.0 in
+    let all = ap (flat_map four_bytes) (words_are t ls 1 0 (lines_of t)) in
+    subst (λ x. Put c.args.writer.now x c.loop-line.writer) all
+    (c.loop-line.invariant c.loop-line.writer (subst (λ x. Put c.loop-line.writer x c.loop-line.writer) (sym none) (put_none c.loop-line.writer)))

@@ -1,53 +1,104 @@
-use Rattle.std.proofs.Common.{◌≡◌, ◌+◌, true, map, Some, None, sym, ap, ◌∙◌}
-use Rattle.std.specs.List.{between}
-use Rattle.lexer.specs.Cursor.{part, words_in}
-use Rattle.lexer.specs.Shown.{shown, first_shown, kind_of}
-use Rattle.lexer.specs.Text.{tail_of, blanks, code_words}
-use Rattle.assembler.specs.Lines.{parts_by}
-use Rattle.assembler.specs.Questions.{judge_of}
-use Rattle.assembler.proofs.Firsts.{begins_at, begins_part, parts_none, parts_plain, parts_label, told_place}
+use Rattle.std.proofs.Common.{◌≡◌, ℕ, ◌+◌, false, List, map, Some, None, Ok, Err, Option, Result, sym, refl, ap, ◌∙◌, subst}
+use Rattle.std.specs.Option.{option_map, IfSome}
+use Rattle.std.proofs.lemmas.Result.{err_from_is_err_and}
+use Rattle.lexer.specs.Cursor.{words_in}
+use Rattle.lexer.specs.Shown.{first_shown, kind_of}
+use Rattle.lexer.specs.Text.{blanks, tail_of}
+use Rattle.lexer.specs.declared.word.LineLabel.{LineLabel}
+use Rattle.assembler.specs.Lines.{Parts, parts_by}
+use Rattle.assembler.specs.Progress.{Judged, Progress, progress_of}
+use Rattle.assembler.specs.declared.label.Label.{Label}
+use Rattle.assembler.specs.declared.question.Question.{Question}
+use Rattle.assembler.specs.Questions.{entry_of, judge_of}
+use Rattle.assembler.proofs.Judges.{plain_ok, plain_err, labelled_no, labelled_ok, labelled_err}
 use Rattle.assembler.proofs.judge.judge.Goals as goal
 
-pub returns-in_default : goal.returns-in_default
-returns-in_default c =
-    let line = c.args.line in
-    let code = between line.start line.end c.args.text.now in
-    let place = line.start + blanks code in
-    let all : words_in c.new-words.result ≡ code_words code = ap code_words (begins_part c.args.text.now line c.new-words.result c.new-words.ensures.begins c.requires.part.0 c.requires.part.1) in
-    let seen = c.in_default.ensures in
-    let first : None ≡ first_shown true (code_words code) = seen.kind ∙ ap (λ f. first_shown f (words_in c.new-words.result)) c.new-words.ensures.begins.fresh ∙ ap (first_shown true) all in
-    c.judge_plain.ensures c.args.text.now c.args.capacity c.args.labels.now place
-    ∙ ap (λ x. judge_of c.args.text.now c.args.capacity c.args.labels.now c.args.progress place (record { label = None; next = None; operands = map kind_of x })) (seen.left ∙ ap tail_of all)
-    ∙ ap (judge_of c.args.text.now c.args.capacity c.args.labels.now c.args.progress place) (sym (parts_none (code_words code) first))
+-- the parts of a line that was split
+plain_parts : (o : Option LineLabel) (ws : List (List ℕ)) (l : Parts) → o ≡ None → parts_by (option_map (λ (x : LineLabel). x.name.now) o) ws ≡ l → parts_by None ws ≡ l
+plain_parts o ws l is e = ap (λ (x : Option LineLabel). parts_by (option_map (λ (y : LineLabel). y.name.now) x) ws) (sym is) ∙ e
 
-pub returns-in_default-word : goal.returns-in_default-word
-returns-in_default-word c =
-    let line = c.args.line in
-    let code = between line.start line.end c.args.text.now in
-    let place = line.start + blanks code in
-    let word = c.in-Some.first.word in
-    let all : words_in c.new-words.result ≡ code_words code = ap code_words (begins_part c.args.text.now line c.new-words.result c.new-words.ensures.begins c.requires.part.0 c.requires.part.1) in
-    let seen = c.in-Some.ensures in
-    let first : Some (shown word) ≡ first_shown true (code_words code) = seen.kind ∙ ap (λ f. first_shown f (words_in c.new-words.result)) c.new-words.ensures.begins.fresh ∙ ap (first_shown true) all in
-    c.judge_plain-in_default-word.ensures c.args.text.now c.args.capacity c.args.labels.now place
-    ∙ ap (λ x. judge_of c.args.text.now c.args.capacity c.args.labels.now c.args.progress place (record { label = None; next = Some (shown word); operands = map kind_of x })) (seen.left ∙ ap tail_of all)
-    ∙ ap (judge_of c.args.text.now c.args.capacity c.args.labels.now c.args.progress place) (sym (parts_plain word (code_words code) c.in_default-word.not-Label first))
+labelled_parts : (o : Option LineLabel) (x : LineLabel) (ws : List (List ℕ)) (l : Parts) → o ≡ Some x → parts_by (option_map (λ (y : LineLabel). y.name.now) o) ws ≡ l → parts_by (Some x.name.now) ws ≡ l
+labelled_parts o x ws l is e = ap (λ (x : Option LineLabel). parts_by (option_map (λ (y : LineLabel). y.name.now) x) ws) (sym is) ∙ e
 
-pub returns : goal.returns
-returns c =
-    let line = c.args.line in
-    let code = between line.start line.end c.args.text.now in
-    let place = line.start + blanks code in
-    let cursor = c.new-words.result in
-    let name = c.in-Label.name.now in
-    let begins = begins_part c.args.text.now line cursor c.new-words.ensures.begins c.requires.part.0 c.requires.part.1 in
-    let all : words_in cursor ≡ code_words code = ap code_words begins in
-    let seen = c.in-Some.ensures in
-    let first = ap (λ v. Some (shown v)) (sym c.in-Label.is) ∙ seen.kind ∙ ap (λ f. first_shown f (words_in cursor)) c.new-words.ensures.begins.fresh ∙ ap (first_shown true) all in
-    let at : c.in-Some.first.place ≡ place =
-    told_place c.in-Some.first cursor.line cursor.fresh (cursor.at + blanks (part cursor)) (words_in cursor) seen.told
-    ∙ ap (λ i. i + blanks (part cursor)) (begins_at c.args.text.now line cursor c.new-words.ensures.begins c.requires.part.0 c.requires.part.1) ∙ ap (λ x. line.start + blanks x) begins in
-    c.judge_labelled.ensures
-    ∙ ap (λ i. judge_of c.args.text.now c.args.capacity c.args.labels.now c.args.progress i (parts_by (Some name) (words_in c.next.new.self))) at
-    ∙ ap (λ x. judge_of c.args.text.now c.args.capacity c.args.labels.now c.args.progress place (parts_by (Some name) x)) (seen.left ∙ ap tail_of all)
-    ∙ ap (judge_of c.args.text.now c.args.capacity c.args.labels.now c.args.progress place) (sym (parts_label name (code_words code) first))
+abbrev the_judged : Option Label → Progress → Result Judged Question
+the_judged e pr = Ok (record { label = e; progress = pr })
+
+pub returns-in_err-judge_rest-in-None-default : goal.returns-in_err-judge_rest-in-None-default
+returns-in_err-judge_rest-in-None-default c =
+    let t = c.args.symbols.text.now in
+    let cap = c.args.capacity in
+    let ls = c.args.symbols.labels.now in
+    let pr = progress_of c.args.progress in
+    let ws = words_in c.split_label.result.1 in
+    let next = first_shown false ws in
+    let ops = map kind_of (tail_of ws) in
+    let at = c.args.line.place + blanks c.args.line.code.now in
+    let judged = judge_of t cap ls pr at in
+    let parts = plain_parts c.split_label.result.0 ws _ c.in-None-default.is-0 c.split_label.ensures.parts in
+    let p = err_from_is_err_and c.from_residual.result c.from_residual.ensures.1 in
+    rw (p.1) (ap Err p.2 ∙ plain_err t cap ls pr at next ops c.in_err-judge_rest-in-None-default.field-0.0 (c.in_err-judge_rest-in-None-default.ensures None refl) ∙ ap judged parts)
+
+pub returns-in_err-judge_label-in-Some-default : goal.returns-in_err-judge_label-in-Some-default
+returns-in_err-judge_label-in-Some-default c =
+    let t = c.args.symbols.text.now in
+    let cap = c.args.capacity in
+    let ls = c.args.symbols.labels.now in
+    let pr = progress_of c.args.progress in
+    let ws = words_in c.split_label.result.1 in
+    let next = first_shown false ws in
+    let ops = map kind_of (tail_of ws) in
+    let at = c.args.line.place + blanks c.args.line.code.now in
+    let judged = judge_of t cap ls pr at in
+    let parts = labelled_parts c.split_label.result.0 c.in-Some-default.label ws _ c.in-Some-default.is-0 c.split_label.ensures.parts in
+    let p = err_from_is_err_and c.from_residual-in_err-judge_label-in-Some-default.result c.from_residual-in_err-judge_label-in-Some-default.ensures.1 in
+    rw (p.1) (ap Err p.2 ∙ labelled_no t cap ls pr at c.in-Some-default.label.name.now next ops c.in_err-judge_label-in-Some-default.field-0.0 c.in_err-judge_label-in-Some-default.ensures ∙ ap judged parts)
+
+pub returns-in_err-after-in-Some-default : goal.returns-in_err-after-in-Some-default
+returns-in_err-after-in-Some-default c =
+    let t = c.args.symbols.text.now in
+    let cap = c.args.capacity in
+    let ls = c.args.symbols.labels.now in
+    let pr = progress_of c.args.progress in
+    let ws = words_in c.split_label.result.1 in
+    let next = first_shown false ws in
+    let ops = map kind_of (tail_of ws) in
+    let at = c.args.line.place + blanks c.args.line.code.now in
+    let judged = judge_of t cap ls pr at in
+    let label = c.in-Some-default.label in
+    let parts = labelled_parts c.split_label.result.0 label ws _ c.in-Some-default.is-0 c.split_label.ensures.parts in
+    let p = err_from_is_err_and c.from_residual-in_err-after-in-Some-default.result c.from_residual-in_err-after-in-Some-default.ensures.1 in
+    rw (p.1) (ap Err p.2 ∙ labelled_err t cap ls pr at label.name.now next ops tt c.in_err-after-in-Some-default.field-0.0 c.in_ok-judge_label-in-Some-default.ensures (c.in_err-after-in-Some-default.ensures (Some label.name.now) refl) ∙ ap judged parts)
+
+pub returns-in_ok-judge_rest-in-None-default : goal.returns-in_ok-judge_rest-in-None-default
+returns-in_ok-judge_rest-in-None-default c =
+    let t = c.args.symbols.text.now in
+    let cap = c.args.capacity in
+    let ls = c.args.symbols.labels.now in
+    let pr = progress_of c.args.progress in
+    let ws = words_in c.split_label.result.1 in
+    let next = first_shown false ws in
+    let ops = map kind_of (tail_of ws) in
+    let at = c.args.line.place + blanks c.args.line.code.now in
+    let judged = judge_of t cap ls pr at in
+    let parts = plain_parts c.split_label.result.0 ws _ c.in-None-default.is-0 c.split_label.ensures.parts in
+    plain_ok t cap ls pr at next ops (progress_of c.in_ok-judge_rest-in-None-default.field-0) (c.in_ok-judge_rest-in-None-default.ensures None refl) ∙ ap judged parts
+
+pub returns-in_ok-after-in-Some-default : goal.returns-in_ok-after-in-Some-default
+returns-in_ok-after-in-Some-default c =
+    let t = c.args.symbols.text.now in
+    let cap = c.args.capacity in
+    let ls = c.args.symbols.labels.now in
+    let pr = progress_of c.args.progress in
+    let ws = words_in c.split_label.result.1 in
+    let next = first_shown false ws in
+    let ops = map kind_of (tail_of ws) in
+    let at = c.args.line.place + blanks c.args.line.code.now in
+    let judged = judge_of t cap ls pr at in
+    let label = c.in-Some-default.label in
+    let after = progress_of c.in_ok-after-in-Some-default.after in
+    let parts = labelled_parts c.split_label.result.0 label ws _ c.in-Some-default.is-0 c.split_label.ensures.parts in
+    let place : label.place ≡ at = subst (λ (o : Option LineLabel). IfSome o (λ l. l.place ≡ at)) c.in-Some-default.is-0 c.split_label.ensures.place in
+    let entry = c.entry_of.ensures ∙ ap (λ i. entry_of i pr label.name.now) place in
+    ap (λ e. the_judged (Some e) after) entry
+    ∙ labelled_ok t cap ls pr at label.name.now next ops tt after c.in_ok-judge_label-in-Some-default.ensures (c.in_ok-after-in-Some-default.ensures (Some label.name.now) refl)
+    ∙ ap judged parts

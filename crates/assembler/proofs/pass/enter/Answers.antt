@@ -22,6 +22,8 @@ returns-in-Some c =
       held = put ∙ sym (ap (entered (entries labels)) c.in-Some.is);
       room = ap length items_are ∙ length-set items (length (entries labels)) x;
       grown = omega arith;
-      past = ap (drop after.len) items_are ∙ drop-set-lt after.len items (length (entries labels)) x (omega arith);
-      lender = c.push.ensures.lender;
+      rest = record {
+        past = ap (drop after.len) items_are ∙ drop-set-lt after.len items (length (entries labels)) x (omega arith);
+        lender = c.push.ensures.lender;
+      };
     }

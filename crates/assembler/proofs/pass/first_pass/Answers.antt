@@ -1,56 +1,64 @@
-use Rattle.std.proofs.Common.{◌≡◌, ◌+◌, ◌<◌, [], length, drop, Err, sym, ap, ◌∙◌, arith}
-use Rattle.std.specs.List.{between}
+use Rattle.std.proofs.Common.{◌≡◌, ◌<◌, [], length, Ok, Err, rules, sym, ap, ◌∙◌, arith}
 use Rattle.std.proofs.lemmas.List.{length-take-le}
+use Rattle.std.proofs.lemmas.Result.{err_from_is_err_and}
 use Rattle.bounded.specs.Held.{entries, room}
-use Rattle.lexer.specs.Cursor.{lines_in}
+use Rattle.lexer.specs.Cursor.{numbered_in}
 use Rattle.lexer.specs.Text.{lines_of}
-use Rattle.assembler.specs.Assembled.{run_from, fresh}
-use Rattle.assembler.proofs.Turns.{of_code, turn, run_err, finds_room, stays_few, beyond}
+use Rattle.assembler.specs.Assembled.{outcome, run_from, fresh}
+use Rattle.assembler.specs.Progress.{judged_as, progress_of}
+use Rattle.assembler.specs.Reading.{result_map}
+use Rattle.assembler.proofs.Mapped.{map_err_ok, map_err_err}
+use Rattle.assembler.proofs.Numbered.{run_in_lines, run_is}
+use Rattle.assembler.proofs.Turns.{of_code, run_ok, run_err, finds_room, keeps_on}
 use Rattle.assembler.proofs.pass.first_pass.Goals as goal
 
 pub enter-requires : goal.enter-requires
 enter-requires c = λ some.
     let held = length-take-le c.loop-line.labels.len c.loop-line.labels.items.now c.loop-line.labels.within in
     let line = c.in-Some.line in
-    let short : length c.as_slice.result.now < c.capacity.result = finds_room c.args.text.now c.capacity.result c.as_slice.result.now c.loop-line.progress line.start (between line.start line.end c.args.text.now) c.in-Ok.judged c.in-Ok.ensures some in
+    let is = map_err_ok c.judge.result c.map_err.result c.in_ok-judged.judged _ c.map_err.ensures.cases c.map_err.ensures.variant c.in_ok-judged.was in
+    let judged : Ok (judged_as c.in_ok-judged.judged) ≡ of_code c.args.text.now c.capacity.result c.as_slice.result.now (progress_of c.loop-line.progress) line.place line.code.now = sym (ap (result_map judged_as) is) ∙ c.judge.ensures in
+    let short : length c.as_slice.result.now < c.capacity.result = finds_room c.args.text.now c.capacity.result c.as_slice.result.now (progress_of c.loop-line.progress) line.place line.code.now (judged_as c.in_ok-judged.judged) judged some in
     omega (arith, ap length c.as_slice.ensures, c.capacity.ensures)
 
 pub loop-line-preserved : goal.loop-line-preserved
 loop-line-preserved c =
-    let inv = c.loop-line.invariant in
-    let next = c.in-Some.ensures in
-    let line = c.in-Some.line in (
-      turn c.args.text.now c.loop-line.lines.text.now (room c.loop-line.labels) c.capacity.result (room c.enter.new.labels)
-          (entries c.loop-line.labels) c.as_slice.result.now (entries c.enter.new.labels) c.loop-line.progress (c.loop-line.lines.line + 1) c.loop-line.lines.at
-          (c.next.new.self.line + 1) c.next.new.self.at (lines_in c.loop-line.lines) (lines_in c.next.new.self) line.number line.start line.end c.in-Ok.judged _
-          inv.1 c.capacity.ensures c.as_slice.ensures next.told c.in-Ok.ensures c.enter.ensures.room c.enter.ensures.held (ap (λ i. i + 1) next.line) next.at next.left inv.0,
-      next.text ∙ inv.1,
-      c.enter.ensures.room ∙ inv.2,
-      c.enter.ensures.past ∙ beyond c.loop-line.labels.len c.enter.new.labels.len _ _ c.enter.ensures.grown inv.3,
-      c.enter.ensures.lender ∙ inv.4,
-      stays_few c.args.text.now c.capacity.result c.as_slice.result.now c.loop-line.progress line.start (between line.start line.end c.args.text.now) c.in-Ok.judged c.in-Ok.ensures,
-    )
-
-pub returns-in-Err : goal.returns-in-Err
-returns-in-Err c =
-    let inv = c.loop-line.invariant in
-    let next = c.in-Some.ensures in
     let line = c.in-Some.line in
     let t = c.args.text.now in
-    let ls = entries c.loop-line.labels in
-    let pr = c.loop-line.progress in
-    let cleared = c.clear.ensures.items in
-    let bad : Err c.in-Err.question ≡ of_code t (room c.loop-line.labels) ls pr line.start (between line.start line.end c.loop-line.lines.text.now) =
-    c.in-Err.ensures
-    ∙ ap (λ x. of_code t x c.as_slice.result.now pr line.start (between line.start line.end t)) c.capacity.ensures
-    ∙ ap (λ x. of_code t (room c.loop-line.labels) x pr line.start (between line.start line.end t)) c.as_slice.ensures
-    ∙ sym (ap (λ x. of_code t (room c.loop-line.labels) ls pr line.start (between line.start line.end x)) inv.1) in
+    let labels = c.loop-line.labels in
+    let pr = progress_of c.loop-line.progress in
+    let j = judged_as c.in_ok-judged.judged in
+    let is = map_err_ok c.judge.result c.map_err.result c.in_ok-judged.judged _ c.map_err.ensures.cases c.map_err.ensures.variant c.in_ok-judged.was in
+    let judged : Ok j ≡ of_code t (room labels) (entries labels) pr line.place line.code.now =
+    sym (ap (result_map judged_as) is) ∙ c.judge.ensures ∙ ap (λ x. of_code t x c.as_slice.result.now pr line.place line.code.now) c.capacity.ensures ∙ ap (λ x. of_code t (room labels) x pr line.place line.code.now) c.as_slice.ensures in
+    let rest = numbered_in c.next.new.self in
+    let on = ap (run_in_lines t (room labels) (entries labels) pr) c.in-Some.ensures.steps ∙ run_ok t (room labels) (entries labels) pr (line.number, line.place, line.code.now) rest j judged in
     record {
       told =
-          sym (run_err t (room c.loop-line.labels) ls pr (c.loop-line.lines.line + 1) c.loop-line.lines.at (lines_in c.loop-line.lines) line.number line.start (between line.start line.end c.loop-line.lines.text.now) c.in-Err.question next.told bad)
-          ∙ inv.0 ∙ ap (λ i. run_from t (length i) [] fresh 1 0 (lines_of t)) cleared;
-      few = tt;
-      room = inv.2 ∙ ap length cleared;
-      past = inv.3 ∙ ap (drop c.loop-line.labels.len) cleared;
-      lender = inv.4 ∙ c.clear.ensures.lender;
+          ap (λ x. run_in_lines t x (entries c.enter.new.labels) j.progress rest) c.enter.ensures.room
+          ∙ ap (λ x. run_in_lines t (room labels) x j.progress rest) c.enter.ensures.held
+          ∙ sym on ∙ c.loop-line.invariant.told;
+      room = c.enter.ensures.room ∙ c.loop-line.invariant.room;
+      rest = keeps_on _ _ _ c.loop-line.invariant.rest c.enter.ensures.rest c.enter.ensures.grown;
     }
+
+pub returns-in_err-judged-clause-told : goal.returns-in_err-judged-clause-told
+returns-in_err-judged-clause-told c =
+    let line = c.in-Some.line in
+    let t = c.args.text.now in
+    let labels = c.loop-line.labels in
+    let pr = progress_of c.loop-line.progress in
+    let p = err_from_is_err_and c.from_residual.result c.from_residual.ensures.1 in
+    let bad = map_err_err c.judge.result c.map_err.result c.in_err-judged.field-0.0 _ (λ q. record { question = q; origin = record { line = line.number } }) c.map_err.ensures.cases c.in_err-judged.was (λ e d h. search rules) in
+    let judged : Err bad.0 ≡ of_code t (room labels) (entries labels) pr line.place line.code.now =
+    sym (ap (result_map judged_as) bad.1) ∙ c.judge.ensures ∙ ap (λ x. of_code t x c.as_slice.result.now pr line.place line.code.now) c.capacity.ensures ∙ ap (λ x. of_code t (room labels) x pr line.place line.code.now) c.as_slice.ensures in
+    let on = ap (run_in_lines t (room labels) (entries labels) pr) c.in-Some.ensures.steps ∙ run_err t (room labels) (entries labels) pr (line.number, line.place, line.code.now) (numbered_in c.next.new.self) bad.0 judged in
+    ap (λ r. outcome r (entries labels)) (p.1 ∙ ap Err (p.2 ∙ bad.2))
+    ∙ sym on ∙ c.loop-line.invariant.told ∙ run_is t _ [] fresh 1 0 (lines_of t) ∙ ap (λ i. run_from t (length i) [] fresh 1 0 (lines_of t)) c.clear.ensures.items
+
+pub returns-clause-told : goal.returns-clause-told
+returns-clause-told c =
+    let t = c.args.text.now in
+    let labels = c.loop-line.labels in
+    sym (ap (run_in_lines t (room labels) (entries labels) (progress_of c.loop-line.progress)) c.in-None.ensures.steps.0)
+    ∙ c.loop-line.invariant.told ∙ run_is t _ [] fresh 1 0 (lines_of t) ∙ ap (λ i. run_from t (length i) [] fresh 1 0 (lines_of t)) c.clear.ensures.items

@@ -1,31 +1,18 @@
-use Rattle.std.proofs.Common.{◌≡◌, get_or, Some, None, Decides, sym, refl, ◌∙◌, subst}
-use Rattle.std.proofs.lemmas.Slice.Eq.{slice_eq-Decides}
+use Rattle.std.proofs.Common.{◌≡◌, ap, ◌∙◌, rules, tests}
+use Rattle.std.specs.List.{find}
+use Rattle.std.specs.Str.{bytes_eq}
+use Rattle.std.specs.Option.{option_map}
+use Rattle.std.proofs.lemmas.Iterator.{YieldsList-from_slice}
+use Rattle.std.proofs.lemmas.Iterator.Search.{find_from_yields_List}
 use Rattle.isa.specs.Table.{opcodes, opcode_named}
-use Rattle.isa.specs.declared.opcode.Opcode.TheVariants.{Halt}
-use Rattle.isa.proofs.Rows.{find_here, find_on, find_none, found, finds_named}
+use Rattle.isa.proofs.Rows.{of_lent, first_row, found, finds_named}
 use Rattle.isa.proofs.opcode.Opcode.from_name.Goals as goal
-use Rattle.std.proofs.lemmas.Bool.Decides.{Decides-eqb}
-
-pub loop-opcode-init : goal.loop-opcode-init
-loop-opcode-init c = refl
-
-pub returns-then-eq : goal.returns-then-eq
-returns-then-eq c =
-    let w = c.args.name.now in
-    let i = c.loop-opcode.opcode-index in
-    let d = subst (λ l. Decides c.eq.result (l ≡ w)) c.name.ensures (slice_eq-Decides Decides-eqb _ _ _ c.eq.ensures) in
-    let e : Some (get_or opcodes i Halt) ≡ opcode_named w = sym (find_here w opcodes i c.eq.result c.loop-opcode-test.true d c.if-eq.true) ∙ c.loop-opcode.invariant in
-    record { value = e; back = found w (Some (get_or opcodes i Halt)) e; finds = finds_named w (Some (get_or opcodes i Halt)) e }
-
-pub loop-opcode-preserved : goal.loop-opcode-preserved
-loop-opcode-preserved c =
-    let w = c.args.name.now in
-    let i = c.loop-opcode.opcode-index in
-    let d = subst (λ l. Decides c.eq.result (l ≡ w)) c.name.ensures (slice_eq-Decides Decides-eqb _ _ _ c.eq.ensures) in
-    sym (find_on w opcodes i c.eq.result c.loop-opcode-test.true d c.if-eq.false) ∙ c.loop-opcode.invariant
 
 pub returns : goal.returns
 returns c =
     let w = c.args.name.now in
-    let e : None ≡ opcode_named w = sym (find_none w opcodes c.loop-opcode.opcode-index c.loop-opcode-test.false) ∙ c.loop-opcode.invariant in
-    record { value = e; back = tt; finds = finds_named w None e }
+    let opcode : c.map.result ≡ option_map (λ r. r.now.0) c.find.result = search rules in
+    let row : option_map (λ r. r.now) c.find.result ≡ find (λ r. bytes_eq r.1.now w) c.rows.result.now =
+    find_from_yields_List (λ r. bytes_eq r.1.now w) _ _ c.find.result c.find.ensures.ran (YieldsList-from_slice c.rows.result.now cc) (λ x b q k. search (rules, tests)) in
+    let e : c.map.result ≡ opcode_named w = opcode ∙ of_lent (λ r. r.0) c.find.result ∙ ap (option_map (λ r. r.0)) row ∙ first_row (λ n. bytes_eq n w) c.rows.result.now opcodes c.rows.ensures.opcodes c.rows.ensures.names in
+    record { value = e; back = found w c.map.result e; finds = finds_named w c.map.result e }

@@ -1,0 +1,34 @@
+//! Units that items are written in.
+
+ghost use Rattle.std.specs.Prelude.{◌≡◌, ℕ};
+ghost use Rattle.host.specs.Codes.{Code, CodeLaws, PushedIfRoom};
+ghost use Rattle.host.specs.Firsts.{StandsFirst};
+ghost use Rattle.host.specs.Ranges.{InRange};
+
+use crate::found::Found;
+use crate::item::Item;
+use crate::refusal::Refusal;
+use bounded::list::{BoundedList, Full};
+
+/// A unit of a code for items, as the byte of a tape and the record of a sheet.
+pub trait CodeUnit: Copy {
+    ghost code: { Code Self };
+
+    ghost MOST: { ℕ };
+
+    // what holds of the code, whatever its unit
+    ghost laws: { CodeLaws code MOST };
+
+    /// The most units that an item takes.
+    const MOST: u8;
+
+    /// Reads the item that stands first, or says why there is none.
+    fn first_of(units: &[Self]) -> Result<Found, Refusal>
+        ensures { StandsFirst code.items code.spoiled units.now result };
+
+    /// Appends the units of an item to a list, where it has room for them.
+    fn push_item(item: Item, list: &mut BoundedList<'_, Self>) -> Result<(), Full>
+        ensures pushed { PushedIfRoom list.old (code.coded item) list.new result }
+        ensures lender { list.new.items.ghost_name ≡ list.old.items.ghost_name }
+        ensures range { InRange item };
+}

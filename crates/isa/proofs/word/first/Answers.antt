@@ -1,6 +1,0 @@
-use Rattle.std.proofs.Common.{◌/◌, ◌^◌}
-use Rattle.std.proofs.lemmas.Nat.{and_mask}
-use Rattle.isa.proofs.word.first.Goals as goal
-
-pub returns : goal.returns
-returns c = and_mask (c.args.word / 2 ^ 20) 4
