@@ -73,9 +73,6 @@ pub(crate) fn run<W: Write>(
     source: &str,
     executable: &str,
 ) -> anyhow::Result<()> {
-    let text = match fs::read(rt, source) {
-        Ok(text) => text,
-        Err(error) => return Err(anyhow!(format!(in rt.alloc(); "{source}: {error}")?)),
-    };
+    let text = fs::read(rt, source).context(source)?;
     assemble_text(rt, output, text.as_slice(), executable)
 }

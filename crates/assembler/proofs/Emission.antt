@@ -57,6 +57,10 @@ pub some_counted : (o : Option (List ℕ)) (n : ℕ) → Some n ≡ option_map l
 some_counted None n e = absurd (no_count n e)
 some_counted (Some cs) n e = refl
 
-pub none_counted : (o : Option (List ℕ)) → None ≡ option_map length o → o ≡ None
-none_counted None e = refl
-none_counted (Some cs) e = absurd (no_count (length cs) (sym e))
+pub was_some : (n : Option ℕ) → is_some n ≡ true → (k : ℕ) × (n ≡ Some k)
+was_some None s = absurd (false≢true s)
+was_some (Some k) s = (k, refl)
+
+pub none_counted : (o : Option (List ℕ)) (n : Option ℕ) → n ≡ option_map length o → is_some n ≡ false → o ≡ None
+none_counted None n e s = refl
+none_counted (Some cs) n e s = absurd (false≢true (sym s ∙ ap is_some e))

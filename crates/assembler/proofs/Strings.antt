@@ -1,6 +1,6 @@
 -- The pieces of a string.
-use Rattle.std.proofs.Common.{◌≡◌, ℕ, ◌+◌, ◌-◌, ◌<◌, ◌≤◌, Bool, true, false, cond, ◌&&◌, eqb, List, [], ◌∷◌, length, get_or, take, drop, is_some, IfSome, Some, None, Ok, Err, Option, sym, refl, ap, ◌∙◌, arith}
-use Rattle.std.specs.Option.{option_map, unwrap_or}
+use Rattle.std.proofs.Common.{Bor, ◌≡◌, ℕ, ◌+◌, ◌-◌, ◌<◌, ◌≤◌, Bool, true, false, cond, ◌&&◌, eqb, List, [], ◌∷◌, length, get_or, take, drop, is_some, IfSome, Some, None, Ok, Err, Option, sym, refl, ap, ◌∙◌, arith}
+use Rattle.std.specs.Option.{option_map, ok_or, unwrap_or}
 use Rattle.std.proofs.lemmas.List.{take_rest}
 use Rattle.std.proofs.lemmas.Bool.{cond-true, cond_both, eq-eqb, false≢true}
 use Rattle.std.specs.Bool.{then_some}
@@ -9,7 +9,7 @@ use Rattle.lexer.specs.Escape.{escaped_as}
 use Rattle.executable.specs.Check.{ask}
 use Rattle.lexer.specs.Shown.{string}
 use Rattle.assembler.specs.Operands.{a_string}
-use Rattle.assembler.specs.Reading.{placed}
+use Rattle.assembler.specs.Reading.{placed, result_map}
 use Rattle.assembler.specs.declared.question.Question.TheVariants as question
 use Rattle.assembler.specs.Characters.{in_front, plain_character, before, first_character, until_quote, characters}
 
@@ -114,3 +114,8 @@ string_uncounted w n e s = go (characters w) n e s where
   go : (o : Option (List ℕ)) (n : Option ℕ) → n ≡ option_map length o → is_some n ≡ false → Err question.Form ≡ ask (is_some o) question.Form (Ok (Some (unwrap_or o [])))
   go None n e s = refl
   go (Some cs) n e s = absurd (false≢true (sym s ∙ ap is_some e))
+
+-- a string that is the operand where its characters are counted
+pub string_asked : (part : Bor (List ℕ)) (n : Option ℕ) → n ≡ option_map length (characters part.now) → result_map (λ s. characters s.now) (ok_or (option_map (λ _. part) n) question.Form) ≡ placed a_string (string part.now) (Some (unwrap_or (characters part.now) []))
+string_asked part None e = string_uncounted part.now None e refl
+string_asked part (Some k) e = string_counted part.now (Some k) e refl

@@ -65,7 +65,7 @@ fn put_characters(writer: &mut Writer, rest: &[u8])
 fn put_string(writer: &mut Writer, part: &[u8])
     ensures { Put writer.old (flat_map four_bytes (string_constants (characters part.now))) writer.new }
 {
-    if let Some(_) = count_characters(part) {
+    if count_characters(part).is_some() {
         put_characters(writer, &part[1..]);
     }
 }

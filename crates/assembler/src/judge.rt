@@ -53,7 +53,7 @@ fn read_named<'a>(
 fn judge_rest(progress: Progress, labelled: bool, mut words: Words) -> Result<Progress, Question>
     ensures { (label : Option (List ℕ)) → labelled ≡ is_some label → result_map progress_of result ≡ body_of (progress_of progress) (parts_by label (words_in words.entry)) }
 {
-    let heading = Heading::new(labelled, words.next());
+    let heading = Heading::new(labelled, words.next_word());
     if !progress.is_followed(heading) {
         return Err(Question::Waiting);
     }

@@ -3,7 +3,7 @@
 #![tactic(auto)]
 
 pub mod assemble;
-pub mod characters;
+mod characters;
 mod effect;
 mod emit;
 mod heading;

@@ -29,6 +29,6 @@ pub(crate) fn statement_of<'a>(line: Line<'a>) -> Option<Statement<'a>>
     ensures { option_map meant result ≡ statement_in (parts_of (code_words line.entry.code.now)) }
 {
     let (_, mut words) = split_label(line);
-    let mnemonic = Mnemonic::of_word(words.next()?.word)?;
+    let mnemonic = Mnemonic::of_word(words.next_word()?.word)?;
     read_statement(mnemonic, &mut words).ok()
 }

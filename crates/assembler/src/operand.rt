@@ -27,7 +27,7 @@ pub(crate) fn next_operand<'a>(words: &mut Words<'a>) -> Word<'a>
     ensures value { shown result ≡ operand 0 (operands_in words.old) }
     ensures left { operands_in words.new ≡ drop 1 (operands_in words.old) }
 {
-    words.next().map_or(Word::Name(b""), |told| told.word)
+    words.next_word().map_or(Word::Name(b""), |told| told.word)
 }
 
 /// The register that a word names.
@@ -82,7 +82,7 @@ pub(crate) fn read_modifier(word: Word) -> Result<i16, Question>
     ensures { result ≡ placed a_modifier (shown word.entry) (unwrap_or (integer_in (shown word.entry)) (pos 0)) }
 {
     let number = integer_of(word).ok_or(Question::Form)?;
-    i16::try_from(number).ok().ok_or(Question::Range)
+    i16::try_from(number).map_err(|_| Question::Range)
 }
 
 /// An integer as an immediate.
@@ -105,7 +105,7 @@ pub(crate) fn read_number(word: Word) -> Result<u32, Question>
     ensures { result ≡ placed a_number (shown word.entry) (unwrap_or (natural_in (shown word.entry)) 0) }
 {
     let number = natural_of(word).ok_or(Question::Form)?;
-    u32::try_from(number).ok().ok_or(Question::Range)
+    u32::try_from(number).map_err(|_| Question::Range)
 }
 
 /// An address.
@@ -134,9 +134,5 @@ pub(crate) fn read_string<'a>(word: Word<'a>) -> Result<&'a [u8], Question>
     let Word::Text(part) = word else {
         return Err(Question::Form);
     };
-    if count_characters(part).is_some() {
-        Ok(part)
-    } else {
-        Err(Question::Form)
-    }
+    count_characters(part).map(|_| part).ok_or(Question::Form)
 }

@@ -123,7 +123,7 @@ pub(crate) fn read_statement<'a>(
 ) -> Result<Statement<'a>, Question>
     ensures { told result ≡ read_by mnemonic (operands_in words.old) }
 {
-    if (*words).count() != operand_count(mnemonic) {
+    if words.word_count() != operand_count(mnemonic) {
         return Err(Question::Count);
     }
     read_counted(mnemonic, words)

@@ -25,10 +25,7 @@ fn has_label_bytes(name: &[u8]) -> bool
 fn is_lawful(name: &[u8]) -> bool
     ensures { result ≡ lawful name.now }
 {
-    match name {
-        [] | [b'0'..=b'9', ..] => false,
-        _ => has_label_bytes(name),
-    }
+    !matches!(name, [] | [b'0'..=b'9', ..]) && has_label_bytes(name)
 }
 
 /// Whether a name is one of the assembler's own.

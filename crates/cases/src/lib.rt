@@ -5,4 +5,6 @@
 pub mod bytes;
 pub mod filled;
 pub mod sum;
+#[cfg(test)]
+mod tests;
 pub mod words;

@@ -24,7 +24,7 @@ impl Default for Item {
 }
 
 /// The kind of an item.
-#[derive(Clone, Copy, PartialEq)]
+#[derive(Clone, Copy, PartialEq, Eq)]
 pub enum Kind {
     Number,
     Real,

@@ -7,7 +7,7 @@ use crate::item::Item;
 
 /// A record: kind 1 is a number, 2 a real and 3 a character, and `value` has its bits. Any other kind may be lent, and
 /// is no item.
-#[derive(Clone, Copy, PartialEq)]
+#[derive(Clone, Copy, PartialEq, Eq)]
 pub struct Record {
     pub kind: u32,
     pub value: u64,

@@ -30,9 +30,9 @@ impl CodeUnit for u8 {
 
     fn push_item(item: Item, list: &mut BoundedList<'_, u8>) -> Result<(), Full> {
         match item {
-            Item::Number(n) => push_command(0x4e, &n.to_le_bytes(), list),
-            Item::Real(n) => push_command(0x44, &n.to_le_bytes(), list),
-            Item::Character(c) => push_command(0x43, &[c], list),
+            Item::Number(n) => push_command(b'N', &n.to_le_bytes(), list),
+            Item::Real(n) => push_command(b'D', &n.to_le_bytes(), list),
+            Item::Character(c) => push_command(b'C', &[c], list),
         }
     }
 }
@@ -43,12 +43,12 @@ fn read_first(bytes: &[u8]) -> Result<Found, Refusal>
 {
     let (item, units) = match bytes {
         [] => return Err(Refusal::NothingWaits),
-        [0x4e, a, b, c, d, ..] => (Item::Number(u32::from_le_bytes([*a, *b, *c, *d])), 5),
-        [0x44, a, b, c, d, e, f, g, h, ..] => (
+        [b'N', a, b, c, d, ..] => (Item::Number(u32::from_le_bytes([*a, *b, *c, *d])), 5),
+        [b'D', a, b, c, d, e, f, g, h, ..] => (
             Item::Real(u64::from_le_bytes([*a, *b, *c, *d, *e, *f, *g, *h])),
             9,
         ),
-        [0x43, a, ..] => (Item::Character(*a), 2),
+        [b'C', a, ..] => (Item::Character(*a), 2),
         _ => return Err(Refusal::SpoiledEnd),
     };
     Ok(Found { item, units })

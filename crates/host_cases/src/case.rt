@@ -2,6 +2,7 @@
 
 use crate::call::Call;
 use anyhow::{Context, anyhow};
+use cases::words::next_word;
 use std::str::FromStr;
 
 /// The host of a case.
@@ -39,13 +40,10 @@ pub(crate) fn read_case(rt: &HostRuntime, line: &str) -> anyhow::Result<Case> {
     let heap = rt.alloc();
     let mut words = line.split_whitespace();
     let name = words.next().context("a line is empty")?.to_string(heap)?;
-    let host = words.next().context("a case has no host")?.parse()?;
-    let writes = words.next().context("a case has no writes")?.parse()?;
-    let room = words.next().context("a case has no room")?.parse()?;
-    let input = words
-        .next()
-        .context("a case has no input")?
-        .to_string(heap)?;
+    let host = next_word(&mut words, "host")?.parse()?;
+    let writes = next_word(&mut words, "writes")?.parse()?;
+    let room = next_word(&mut words, "room")?.parse()?;
+    let input = next_word(&mut words, "input")?.to_string(heap)?;
     let mut calls = Vec::new(heap);
     for word in words {
         calls.push(word.parse()?)?;

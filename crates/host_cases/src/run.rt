@@ -4,6 +4,7 @@ use crate::call::make_call;
 use crate::case::{Case, HostName, read_case};
 use crate::units::CaseUnit;
 use anyhow::Context;
+use cases::filled::is_filled;
 use host::lent_host::LentHost;
 use host::record::Record;
 use host::room::ask_room;
@@ -37,8 +38,11 @@ fn run_case<U: CaseUnit>(rt: &HostRuntime, case: &Case) -> anyhow::Result<()> {
         .as_slice()
         .get(length..)
         .context("too much was written")?;
-    let untouched = rest.iter().all(|unit| *unit == U::FILLER);
-    let state = if untouched { "untouched" } else { "changed" };
+    let state = if is_filled(rest, &U::FILLER) {
+        "untouched"
+    } else {
+        "changed"
+    };
     println!(rt; "  rest {state}")?;
     Ok(())
 }

@@ -141,7 +141,7 @@ impl Opcode {
         ensures back { IfSome result (λ o. code_of o ≡ code) }
         ensures finds { (o : Opcode) → code_of o ≡ code → result ≡ Some o }
     {
-        rows().get(code as usize).map(|Row(opcode, ..)| *opcode)
+        rows().get(usize::from(code)).map(|Row(opcode, ..)| *opcode)
     }
 
     /// The opcode with a name, or none for a text that names no command.

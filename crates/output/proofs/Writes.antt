@@ -1,7 +1,6 @@
 -- One write after another.
-use Rattle.std.proofs.Common.{◌≡◌, ℕ, zero, suc, ◌+◌, ◌-◌, ◌^◌, ◌<◌, ◌≤◌, min, List, [], ◌∷◌, ◌++◌, length, take, drop, set, sym, refl, ap, ◌∙◌, ⊎_elim, arith, length-append}
+use Rattle.std.proofs.Common.{◌≡◌, ℕ, zero, suc, ◌+◌, ◌-◌, ◌^◌, ◌<◌, ◌≤◌, min, List, [], ◌∷◌, ◌++◌, length, take, drop, sym, refl, ap, ◌∙◌, ⊎_elim, arith, length-append}
 use Rattle.std.proofs.lemmas.Bool.{cases_lt}
-use Rattle.std.proofs.lemmas.List.{set_past}
 use borrow.Rule.Slice.PartMut.{put_mid}
 use Rattle.output.specs.Overlay.{overlay, Wrote}
 
@@ -9,11 +8,6 @@ overlay_none : (o : List ℕ) (a : ℕ) → overlay o a [] ≡ o
 overlay_none [] a = refl
 overlay_none (x ∷ o) zero = refl
 overlay_none (x ∷ o) (suc a) = ap (λ l. x ∷ l) (overlay_none o a)
-
-overlay_byte : (o : List ℕ) (a b : ℕ) → set o a b ≡ overlay o a (b ∷ [])
-overlay_byte [] a b = refl
-overlay_byte (x ∷ o) zero b = ap (λ l. b ∷ l) (sym (overlay_none o zero))
-overlay_byte (x ∷ o) (suc a) b = ap (λ l. x ∷ l) (overlay_byte o a b)
 
 overlay_then : (o : List ℕ) (a : ℕ) (x y : List ℕ) → overlay (overlay o a x) (a + length x) y ≡ overlay o a (x ++ y)
 overlay_then [] a x y = refl
@@ -64,13 +58,6 @@ overlay_clip o k m text h = ⊎_elim
 
 pub wrote_none : (o : List ℕ) (a : ℕ) → a < 2 ^ 64 → Wrote o a [] a o
 wrote_none o a h = record { ends = omega arith; laid = sym (overlay_none o a) }
-
-pub wrote_byte : (o : List ℕ) (a b r : ℕ) → r ≡ min (a + 1) (2 ^ 64 - 1) → Wrote o a (b ∷ []) r (set o a b)
-wrote_byte o a b r e = record { ends = e; laid = overlay_byte o a b }
-
--- a byte past the end is lost
-pub wrote_past : (o : List ℕ) (a b r : ℕ) → r ≡ min (a + 1) (2 ^ 64 - 1) → length o ≤ a → Wrote o a (b ∷ []) r o
-wrote_past o a b r e h = record { ends = e; laid = sym (set_past o a b h) ∙ overlay_byte o a b }
 
 pub wrote_then : (o o' o'' : List ℕ) (a r r' : ℕ) (x y : List ℕ) → length o < 2 ^ 64 → Wrote o a x r o' → Wrote o' r y r' o'' → Wrote o a (x ++ y) r' o''
 wrote_then o o' o'' a r r' x y h f g = record {

@@ -1,11 +1,11 @@
-//! A text on its way into a lent output. A call writes what fits and goes on in any case: so the same calls measure (over
-//! an empty output) and write, and none of them can refuse.
+//! A text that is written into a lent output. A call writes what fits and goes on in any case: so the same calls measure
+//! (over an empty output) and write, and none of them can refuse.
 
 ghost use Rattle.std.specs.Prelude.{◌≡◌, ◌^◌, ◌<◌, length};
 ghost use Rattle.output.specs.Overlay.{overlay};
 
-/// A text on its way into an output that the caller lends. What fits of the text stands there, and `len` is the text's
-/// length so far, as far as 64 bits hold it.
+/// A text that is written into an output that the caller lends. What fits of the text stands there, and `len` is the
+/// text's length so far, as far as 64 bits hold it.
 #[derive(Drop)]
 pub struct Writer<'a> {
     out: &'a mut [u8],
@@ -24,7 +24,16 @@ impl<'a> Writer<'a> {
         ensures lender { result.out.ghost_name ≡ out.entry.ghost_name }
         ensures length { result.len ≡ 0 }
     {
-        Writer { out, len: 0 }
+        Writer::at_place(out, 0)
+    }
+
+    /// A text of which so many bytes are before the next one, over an output that stays as it is.
+    pub fn at_place(out: &'a mut [u8], place: usize) -> Writer<'a>
+        ensures output { result.out.now ≡ out.old }
+        ensures lender { result.out.ghost_name ≡ out.entry.ghost_name }
+        ensures length { result.len ≡ place }
+    {
+        Writer { out, len: place }
     }
 
     /// The length of the text so far, as far as 64 bits hold it.

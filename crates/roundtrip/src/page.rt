@@ -6,9 +6,5 @@ ghost use Rattle.std.specs.Prelude.{◌≡◌, take};
 pub(crate) fn front(bytes: &[u8], length: usize) -> &[u8]
     ensures { result.now ≡ take length bytes.now }
 {
-    if length >= bytes.len() {
-        bytes
-    } else {
-        &bytes[0..length]
-    }
+    &bytes[..length.min(bytes.len())]
 }

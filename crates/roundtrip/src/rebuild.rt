@@ -9,7 +9,7 @@ ghost use Rattle.roundtrip.specs.Rebuilt.{rebuilt, length_of, written_to};
 use crate::page::front;
 use crate::refusal::Refusal;
 use assembler::assemble::assemble;
-use assembler::label::{Label, Place};
+use assembler::label::Label;
 use bounded::list::BoundedList;
 use listing::list::list;
 
@@ -18,11 +18,7 @@ fn assemble_listing(text: &[u8], out: &mut [u8]) -> Option<usize>
     ensures value { result ≡ result_ok (answer_of (assembled text.now 0 (length out.old))) }
     ensures output { out.new ≡ output_of (assembled text.now 0 (length out.old)) out.old }
 {
-    let mut none = [Label {
-        place: Place { offset: 0 },
-        length: 0,
-        address: 0,
-    }; 0];
+    let mut none: [Label; 0] = [];
     let mut labels = BoundedList::new(&mut none);
     assemble(text, &mut labels, out).ok()
 }

@@ -75,33 +75,11 @@ fn run_case(rt: &HostRuntime, case: &Case) -> anyhow::Result<()> {
     let mut out = vec![in rt.alloc(); 7u8; case.room]?;
     let mut entries = vec![in rt.alloc(); filler(); case.labels]?;
     let (count, answer) = assemble_into(case.text.as_slice(), &mut entries, &mut out);
-    let name = case.name.as_str();
-    let used = match answer {
-        Err(refusal) => {
-            let number = refusal.question.number();
-            let line = refusal.origin.line;
-            print!(rt; "{name}: refused {number} line {line}")?;
-            0
-        }
-        Ok(length) => {
-            let (executable, _) = out
-                .as_slice()
-                .split_at_checked(length)
-                .context("the length is past the output")?;
-            let sum = checksum(executable);
-            let back = if lists_back(rt, executable)? {
-                "yes"
-            } else {
-                "no"
-            };
-            print!(rt; "{name}: ok {length} {sum} back {back}")?;
-            length
-        }
-    };
-    let (_, past) = out
+    let (executable, past) = out
         .as_slice()
-        .split_at_checked(used)
+        .split_at_checked(answer.unwrap_or(0))
         .context("the length is past the output")?;
+    print_answer(rt, case.name.as_str(), answer, executable)?;
     let (labels, free) = entries
         .as_slice()
         .split_at_checked(count)
@@ -113,6 +91,32 @@ fn run_case(rt: &HostRuntime, case: &Case) -> anyhow::Result<()> {
     };
     println!(rt; " labels {count} rest {rest}")?;
     print_labels(rt, labels)
+}
+
+/// Prints how a case ended, with what was written of its executable.
+fn print_answer(
+    rt: &HostRuntime,
+    name: &str,
+    answer: Result<usize, Refusal>,
+    executable: &[u8],
+) -> anyhow::Result<()> {
+    match answer {
+        Err(refusal) => {
+            let number = refusal.question.number();
+            let line = refusal.origin.line;
+            print!(rt; "{name}: refused {number} line {line}")
+        }
+        Ok(length) => {
+            let sum = checksum(executable);
+            let back = if lists_back(rt, executable)? {
+                "yes"
+            } else {
+                "no"
+            };
+            print!(rt; "{name}: ok {length} {sum} back {back}")
+        }
+    }?;
+    Ok(())
 }
 
 /// Whether the listing of an executable assembles to it again.

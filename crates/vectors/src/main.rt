@@ -75,7 +75,7 @@ fn run_printout(rt: &HostRuntime, case: &Case) -> anyhow::Result<()> {
     let printed = printout(rt.alloc(), case.bytes.as_slice())?;
     let text = printed.text();
     let length = text.len();
-    let status = if printed.is_refused() { 1 } else { 0 };
+    let status = u8::from(printed.is_refused());
     println!(rt; "{name}: prints {length} status {status}")?;
     rt.stdout().write_all(text)?;
     Ok(())

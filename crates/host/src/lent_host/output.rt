@@ -14,10 +14,7 @@ use bounded::list::BoundedList;
 pub(crate) fn writes_left<U: CodeUnit>(output: &[U], writes: usize) -> usize
     ensures { result ≡ writes_left (room_for U.MOST (length output.now) writes) writes }
 {
-    match ask_room(output, writes) {
-        Ok(()) => writes,
-        Err(_) => 0,
-    }
+    ask_room(output, writes).map_or(0, |()| writes)
 }
 
 /// Writes the units of an item from the first place on, and answers how many there are.

@@ -1,6 +1,6 @@
 //! Going through the words of a line.
 
-ghost use Rattle.std.specs.Prelude.{◌≡◌, ℕ, ◌+◌, true, false, List, [], ⊤, is_some, IfSome, IfNone, MatchOption, if◌then◌else◌};
+ghost use Rattle.std.specs.Prelude.{◌≡◌, ℕ, ◌+◌, true, false, List, [], length, ⊤, is_some, IfSome, IfNone, MatchOption, if◌then◌else◌};
 ghost use Rattle.std.specs.Option.{option_map};
 ghost use Rattle.lexer.specs.Cursor.{words_in, kinds_in, past_word, Begins, SplitFirst};
 ghost use Rattle.lexer.specs.Divided.{Divided};
@@ -29,6 +29,15 @@ impl<'a> Line<'a> {
 }
 
 impl<'a> Words<'a> {
+    ghost use Rattle.std.specs.Iterator.{YieldsFirstBy, MakesProgress, item_count};
+
+    /// How many words are still to come.
+    pub fn word_count(&self) -> usize
+        ensures { result ≡ length (words_in self.now) }
+    {
+        self.count()
+    }
+
     /// The first word, its place, and the words after it.
     fn split_first(self) -> Option<(usize, &'a [u8], Words<'a>)>
         ensures { MatchOption result ((words_in self.entry ≡ []) × (past_word self.entry ≡ self.entry.place)) (λ w. SplitFirst self.entry w.0 w.1.now w.2) }
@@ -61,19 +70,10 @@ impl<'a> Words<'a> {
         *self = after;
         Some(LineLabel { line, place, name })
     }
-}
 
-impl<'a> Iterator for Words<'a> {
-    ghost use Rattle.std.specs.Iterator.{YieldsFirstBy, MakesProgress, item_count};
-
-    type Item = Token<'a>;
-
-    ghost next_gives = { YieldsFirstBy (λ t. shown t.word) kinds_in };
-
-    ghost remaining = { item_count kinds_in };
-
+    /// The next word, if there is one.
     #[tactic(auto, using(crate::proofs::Stands::kind_bytes))]
-    fn next(&mut self) -> Option<Token<'a>>
+    pub fn next_word(&mut self) -> Option<Token<'a>>
         ensures steps { YieldsFirstBy (λ t. shown t.word) kinds_in self.old result self.new }
         ensures goes { MakesProgress (λ _. ⊤) (item_count kinds_in) self.old result self.new }
         ensures told { tell result ≡ first_told self.old.line false (self.old.place + blanks self.old.rest.now) (words_in self.old) }
@@ -92,5 +92,19 @@ impl<'a> Iterator for Words<'a> {
             place,
             word: kind_of(word),
         })
+    }
+}
+
+impl<'a> Iterator for Words<'a> {
+    ghost use Rattle.std.specs.Iterator.{YieldsFirstBy, item_count};
+
+    type Item = Token<'a>;
+
+    ghost next_gives = { YieldsFirstBy (λ t. shown t.word) kinds_in };
+
+    ghost remaining = { item_count kinds_in };
+
+    fn next(&mut self) -> Option<Token<'a>> {
+        self.next_word()
     }
 }
