@@ -33,7 +33,7 @@ numbered question.End = refl
 numbered question.Defined = refl
 numbered question.Output = refl
 
-by_number : (p q : Question) → number_of p ≡ number_of q → p ≡ q
+pub by_number : (p q : Question) → number_of p ≡ number_of q → p ≡ q
 by_number p q e = sym (numbered p) ∙ ap (λ n. get_or ordered n question.Text) e ∙ numbered q
 
 -- the numbers of these questions are m, m + 1 and so on
@@ -149,7 +149,7 @@ module _ (t : List ℕ) (cap : ℕ) where
   no_said : (ls : List Label) (pr : Progress) (l : List ℕ) (q : Question) → 2 ≤ number_of q → number_of q < 11 → SaysNo t cap ls pr l q → refusal_in t cap ls pr (parts_of (words_of l)) ≡ Some q
   no_said ls pr l q low high no' = says_first (asked t cap ls pr (parts_of (words_of l))) line_questions 2 q in_order (no'.0, no'.1, low, high)
 
-  no_on_line : (q : Question) (n : ℕ) (ls : List Label) → run_from t cap [] fresh 1 0 (lines_of t) ≡ refused q n ls → NoOnLine t cap q n × (2 ≤ number_of q) × (number_of q < 11)
+  pub no_on_line : (q : Question) (n : ℕ) (ls : List Label) → run_from t cap [] fresh 1 0 (lines_of t) ≡ refused q n ls → NoOnLine t cap q n × (2 ≤ number_of q) × (number_of q < 11)
   no_on_line q n ls e =
       let x = found (lines_of t) [] fresh 1 0 q n ls e in
       let r = x.2 in

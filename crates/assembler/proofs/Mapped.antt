@@ -1,7 +1,6 @@
 -- A result whose error was mapped.
 use Rattle.std.proofs.Common.{◌≡◌, Ok, Err, Result, is_ok, sym, refl, ap, ◌∙◌}
-use Rattle.std.specs.Option.{ok_or}
-use Rattle.std.specs.Result.{result_ok, IsErrAnd, MatchResult}
+use Rattle.std.specs.Result.{IsErrAnd, MatchResult}
 use Rattle.std.proofs.lemmas.Bool.{false≢true}
 
 pub map_err_ok : {X E F : Type 0} (r : Result X E) (s : Result X F) (x : X) (Q : E → Type 0) → MatchResult r (λ y. s ≡ Ok y) Q → is_ok s ≡ is_ok r → s ≡ Ok x → r ≡ Ok x
@@ -12,9 +11,3 @@ pub map_err_err : {X E F : Type 0} (r : Result X E) (s : Result X F) (f : F) (P 
 map_err_err (Ok y) s f P g h e k = absurd (let z : Ok y ≡ Err f = sym h ∙ e in cc)
 map_err_err (Err q) (Ok y) f P g h e k = absurd h
 map_err_err (Err q) (Err d) f P g h e k = let w : d ≡ f = cc in (q, refl, sym w ∙ k q d h)
-
--- an error that is replaced by one
-pub map_err_to : {X E F : Type 0} (r : Result X E) (s : Result X F) (f : F) (P : E → F → Type 0) → MatchResult r (λ y. s ≡ Ok y) (λ e. IsErrAnd s (P e)) → ((e : E) (d : F) → P e d → d ≡ f) → s ≡ ok_or (result_ok r) f
-map_err_to (Ok y) s f P h k = h
-map_err_to (Err q) (Ok y) f P h k = absurd h
-map_err_to (Err q) (Err d) f P h k = ap Err (k q d h)

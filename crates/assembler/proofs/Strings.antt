@@ -1,6 +1,6 @@
 -- The pieces of a string.
-use Rattle.std.proofs.Common.{Bor, ◌≡◌, ℕ, ◌+◌, ◌-◌, ◌<◌, ◌≤◌, Bool, true, false, cond, ◌&&◌, eqb, List, [], ◌∷◌, length, get_or, take, drop, is_some, IfSome, Some, None, Ok, Err, Option, sym, refl, ap, ◌∙◌, arith}
-use Rattle.std.specs.Option.{option_map, ok_or, unwrap_or}
+use Rattle.std.proofs.Common.{◌≡◌, ℕ, ◌+◌, ◌-◌, ◌<◌, ◌≤◌, Bool, true, false, cond, ◌&&◌, eqb, List, [], ◌∷◌, length, get_or, take, drop, is_some, IfSome, Some, None, Ok, Err, Option, sym, refl, ap, ◌∙◌, arith}
+use Rattle.std.specs.Option.{option_map, unwrap_or}
 use Rattle.std.proofs.lemmas.List.{take_rest}
 use Rattle.std.proofs.lemmas.Bool.{cond-true, cond_both, eq-eqb, false≢true}
 use Rattle.std.specs.Bool.{then_some}
@@ -9,7 +9,7 @@ use Rattle.lexer.specs.Escape.{escaped_as}
 use Rattle.executable.specs.Check.{ask}
 use Rattle.lexer.specs.Shown.{string}
 use Rattle.assembler.specs.Operands.{a_string}
-use Rattle.assembler.specs.Reading.{placed, result_map}
+use Rattle.assembler.specs.Reading.{placed}
 use Rattle.assembler.specs.declared.question.Question.TheVariants as question
 use Rattle.assembler.specs.Characters.{in_front, plain_character, before, first_character, until_quote, characters}
 
@@ -103,19 +103,14 @@ characters_short (b ∷ bs) = cond_both (eqb b 34) (until_quote bs) None (λ r. 
       weaker (Some cs) n k h l = omega arith
 
 -- a quoted word whose characters were counted has the form of a string, and no other has
-pub string_counted : (w : List ℕ) (n : Option ℕ) → n ≡ option_map length (characters w) → is_some n ≡ true → Ok (characters w) ≡ placed a_string (string w) (Some (unwrap_or (characters w) []))
-string_counted w n e s = go (characters w) n e s where
-  go : (o : Option (List ℕ)) (n : Option ℕ) → n ≡ option_map length o → is_some n ≡ true → Ok o ≡ ask (is_some o) question.Form (Ok (Some (unwrap_or o [])))
-  go None n e s = absurd (false≢true (sym (ap is_some e) ∙ s))
-  go (Some cs) n e s = refl
+pub string_counted : (w : List ℕ) (k : ℕ) → Some k ≡ option_map length (characters w) → Ok (characters w) ≡ placed a_string (string w) (Some (unwrap_or (characters w) []))
+string_counted w k e = go (characters w) e where
+  go : (o : Option (List ℕ)) → Some k ≡ option_map length o → Ok o ≡ ask (is_some o) question.Form (Ok (Some (unwrap_or o [])))
+  go None e = absurd (false≢true (sym (ap is_some e)))
+  go (Some cs) e = refl
 
-pub string_uncounted : (w : List ℕ) (n : Option ℕ) → n ≡ option_map length (characters w) → is_some n ≡ false → Err question.Form ≡ placed a_string (string w) (Some (unwrap_or (characters w) []))
-string_uncounted w n e s = go (characters w) n e s where
-  go : (o : Option (List ℕ)) (n : Option ℕ) → n ≡ option_map length o → is_some n ≡ false → Err question.Form ≡ ask (is_some o) question.Form (Ok (Some (unwrap_or o [])))
-  go None n e s = refl
-  go (Some cs) n e s = absurd (false≢true (sym s ∙ ap is_some e))
-
--- a string that is the operand where its characters are counted
-pub string_asked : (part : Bor (List ℕ)) (n : Option ℕ) → n ≡ option_map length (characters part.now) → result_map (λ s. characters s.now) (ok_or (option_map (λ _. part) n) question.Form) ≡ placed a_string (string part.now) (Some (unwrap_or (characters part.now) []))
-string_asked part None e = string_uncounted part.now None e refl
-string_asked part (Some k) e = string_counted part.now (Some k) e refl
+pub string_uncounted : (w : List ℕ) → None ≡ option_map length (characters w) → Err question.Form ≡ placed a_string (string w) (Some (unwrap_or (characters w) []))
+string_uncounted w e = go (characters w) e where
+  go : (o : Option (List ℕ)) → None ≡ option_map length o → Err question.Form ≡ ask (is_some o) question.Form (Ok (Some (unwrap_or o [])))
+  go None e = refl
+  go (Some cs) e = absurd (false≢true (ap is_some e))

@@ -20,7 +20,6 @@ use crate::reserved::is_usable;
 use crate::statement::Statement;
 use crate::symbols::Symbols;
 use lexer::lines::Line;
-use lexer::word::LineLabel;
 use lexer::words::Words;
 
 /// Questions 2 and 3 of a label.
@@ -68,14 +67,12 @@ fn judge_rest(progress: Progress, labelled: bool, mut words: Words) -> Result<Pr
 }
 
 /// The entry of a label: its address is the number of words before it.
-fn entry_of(progress: Progress, label: LineLabel) -> Label
-    ensures { result ≡ entry_of label.entry.place (progress_of progress) label.entry.name.now }
+fn entry_of(progress: Progress, place: usize, name: &[u8]) -> Label
+    ensures { result ≡ entry_of place (progress_of progress) name.now }
 {
     Label {
-        place: Place {
-            offset: label.place,
-        },
-        length: label.name.len(),
+        place: Place { offset: place },
+        length: name.len(),
         address: progress.sizes.total(),
     }
 }
@@ -94,11 +91,11 @@ pub(crate) fn judge(
             label: None,
             progress: judge_rest(progress, false, words)?,
         }),
-        (Some(label), words) => {
-            judge_label(symbols, capacity, label.name)?;
+        (Some((place, name)), words) => {
+            judge_label(symbols, capacity, name)?;
             let after = judge_rest(progress, true, words)?;
             Ok(Judged {
-                label: Some(entry_of(progress, label)),
+                label: Some(entry_of(progress, place, name)),
                 progress: after,
             })
         }

@@ -11,17 +11,23 @@ use crate::mnemonic::Mnemonic;
 use crate::read::read_statement;
 use crate::statement::Statement;
 use lexer::lines::Line;
-use lexer::word::LineLabel;
+use lexer::word::Word;
 use lexer::words::Words;
 
-/// The label of a line, if it has one, and the words after it.
-pub(crate) fn split_label<'a>(line: Line<'a>) -> (Option<LineLabel<'a>>, Words<'a>)
-    ensures parts { parts_by (option_map (λ l. l.name.now) result.0) (words_in result.1) ≡ parts_of (code_words line.entry.code.now) }
-    ensures place { IfSome result.0 (λ l. l.place ≡ line.entry.place + blanks line.entry.code.now) }
+/// The place and the name of a line's label, if it has one, and the words after it.
+pub(crate) fn split_label<'a>(line: Line<'a>) -> (Option<(usize, &'a [u8])>, Words<'a>)
+    ensures parts { parts_by (option_map (λ l. l.1.now) result.0) (words_in result.1) ≡ parts_of (code_words line.entry.code.now) }
+    ensures place { IfSome result.0 (λ l. l.0 ≡ line.entry.place + blanks line.entry.code.now) }
 {
     let mut words = line.words();
-    let label = words.take_label();
-    (label, words)
+    let Some(token) = words.take_label() else {
+        return (None, words);
+    };
+    // the word that is taken is a label
+    let Word::Label(name) = token.word else {
+        return (None, words);
+    };
+    (Some((token.place, name)), words)
 }
 
 /// The statement of a line, past its label.

@@ -1,8 +1,8 @@
 //! Reading one operand: questions 8 and 9.
 
-ghost use Rattle.std.specs.Prelude.{◌≡◌, pos, false, [], drop, Some};
+ghost use Rattle.std.specs.Prelude.{◌≡◌, ◌^◌, pos, false, [], drop, Some};
 ghost use Rattle.std.specs.Option.{option_map, unwrap_or};
-ghost use Rattle.isa.specs.Ranges.{in_bits};
+ghost use Rattle.isa.specs.Ranges.{below, in_bits};
 ghost use Rattle.lexer.specs.Shown.{shown};
 ghost use Rattle.numerals.specs.Integer.{capped_integer};
 ghost use Rattle.numerals.specs.Natural.{capped};
@@ -74,15 +74,23 @@ fn label_of<'a>(word: Word<'a>) -> Option<&'a [u8]>
 pub(crate) fn read_register(word: Word) -> Result<Register, Question>
     ensures { result_map (λ q. q.number) result ≡ placed a_register (shown word.entry) (unwrap_or (register_in (shown word.entry)) 0) }
 {
-    register_of(word).ok_or(Question::Form)
+    let Some(register) = register_of(word) else {
+        return Err(Question::Form);
+    };
+    Ok(register)
 }
 
 /// A signed number of 16 bits.
 pub(crate) fn read_modifier(word: Word) -> Result<i16, Question>
     ensures { result ≡ placed a_modifier (shown word.entry) (unwrap_or (integer_in (shown word.entry)) (pos 0)) }
 {
-    let number = integer_of(word).ok_or(Question::Form)?;
-    i16::try_from(number).map_err(|_| Question::Range)
+    let Some(number) = integer_of(word) else {
+        return Err(Question::Form);
+    };
+    let Ok(modifier) = i16::try_from(number) else {
+        return Err(Question::Range);
+    };
+    Ok(modifier)
 }
 
 /// An integer as an immediate.
@@ -96,24 +104,46 @@ fn immediate_from(number: i64) -> Option<Immediate>
 pub(crate) fn read_immediate(word: Word) -> Result<Immediate, Question>
     ensures { result_map (λ i. i.value) result ≡ placed an_immediate (shown word.entry) (unwrap_or (integer_in (shown word.entry)) (pos 0)) }
 {
-    let number = integer_of(word).ok_or(Question::Form)?;
-    immediate_from(number).ok_or(Question::Range)
+    let Some(number) = integer_of(word) else {
+        return Err(Question::Form);
+    };
+    let Some(immediate) = immediate_from(number) else {
+        return Err(Question::Range);
+    };
+    Ok(immediate)
 }
 
 /// A number of 32 bits.
 pub(crate) fn read_number(word: Word) -> Result<u32, Question>
     ensures { result ≡ placed a_number (shown word.entry) (unwrap_or (natural_in (shown word.entry)) 0) }
 {
-    let number = natural_of(word).ok_or(Question::Form)?;
-    u32::try_from(number).map_err(|_| Question::Range)
+    let Some(number) = natural_of(word) else {
+        return Err(Question::Form);
+    };
+    let Ok(number) = u32::try_from(number) else {
+        return Err(Question::Range);
+    };
+    Ok(number)
+}
+
+/// A number as an address.
+fn address_from(number: u64) -> Option<Address>
+    ensures { option_map (λ a. a.value) result ≡ below (2 ^ 20) number }
+{
+    Address::new(u32::try_from(number).ok()?)
 }
 
 /// An address.
 pub(crate) fn read_address(word: Word) -> Result<Address, Question>
     ensures { result_map (λ a. a.value) result ≡ placed an_address (shown word.entry) (unwrap_or (natural_in (shown word.entry)) 0) }
 {
-    let number = read_number(word)?;
-    Address::new(number).ok_or(Question::Range)
+    let Some(number) = natural_of(word) else {
+        return Err(Question::Form);
+    };
+    let Some(address) = address_from(number) else {
+        return Err(Question::Range);
+    };
+    Ok(address)
 }
 
 /// An address or a label.
@@ -123,7 +153,12 @@ pub(crate) fn read_target<'a>(word: Word<'a>) -> Result<Target<'a>, Question>
     if let Some(label) = label_of(word) {
         return Ok(Target::Label(label));
     }
-    let address = read_address(word)?;
+    let Some(number) = natural_of(word) else {
+        return Err(Question::Form);
+    };
+    let Some(address) = address_from(number) else {
+        return Err(Question::Range);
+    };
     Ok(Target::Address(address))
 }
 
@@ -134,5 +169,8 @@ pub(crate) fn read_string<'a>(word: Word<'a>) -> Result<&'a [u8], Question>
     let Word::Text(part) = word else {
         return Err(Question::Form);
     };
-    count_characters(part).map(|_| part).ok_or(Question::Form)
+    let Some(_) = count_characters(part) else {
+        return Err(Question::Form);
+    };
+    Ok(part)
 }

@@ -80,8 +80,12 @@ module _ (t : List ℕ) (cap : ℕ) where
       line_step ls pr n p l rest _ (refusal_in t cap ls pr (line_parts l)) refl
       (leaves rest (labels_after (p + blanks (before 35 l)) ls pr (line_parts l).label) (after pr (line_parts l)) (n + 1) (p + length l + 1))
 
+  -- the labels that lines leave where they pass
+  pub passed_labels : (lines : List (List ℕ)) (ls : List Label) (pr : Progress) → run_from t cap [] fresh 1 0 lines ≡ passed ls pr → ls ≡ labels_in 0 0 lines
+  passed_labels lines ls pr e = subst (Leaves [] 1 (labels_in 0 0) lines) e (leaves lines [] fresh 1 0)
+
   pub all_labels : (ls : List Label) (pr : Progress) → run_from t cap [] fresh 1 0 (lines_of t) ≡ passed ls pr → ls ≡ text_labels t
-  all_labels ls pr e = subst (Leaves [] 1 (labels_in 0 0) (lines_of t)) e (leaves (lines_of t) [] fresh 1 0)
+  all_labels = passed_labels (lines_of t)
 
   before_line : (q : Question) (n : ℕ) → OfLine q → labels_before t n ≡ labels_refused t q n
   before_line question.Text n of = absurd of

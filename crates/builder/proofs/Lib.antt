@@ -1,4 +1,5 @@
 pub mod Called
+pub mod FirstNo
 pub mod Header
 pub mod Labels
 pub mod Passing
@@ -6,3 +7,4 @@ pub mod Ran
 pub mod Said
 pub mod Small
 pub mod Sound
+pub mod Stood

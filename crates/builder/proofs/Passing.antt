@@ -22,7 +22,7 @@ past f [] rs e = e
 past f (q ∷ qs) rs e = past f qs rs (yes (f q) (first_no f (qs ++ rs)) q e).1
 
 -- the first question past some others
-asks : (f : Question → Bool) (qs : List Question) (q : Question) (rs : List Question) → first_no f (qs ++ q ∷ rs) ≡ None → f q ≡ true
+pub asks : (f : Question → Bool) (qs : List Question) (q : Question) (rs : List Question) → first_no f (qs ++ q ∷ rs) ≡ None → f q ≡ true
 asks f qs q rs e = (yes (f q) (first_no f rs) q (past f qs (q ∷ rs) e)).0
 
 right_by : (o : Option Mnemonic) (l : Parts) → of_operands right_count l o ≡ true → of_operands right_form l o ≡ true → of_operands right_range l o ≡ true → Right o l.operands

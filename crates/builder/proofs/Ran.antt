@@ -168,7 +168,7 @@ module _ (t : List ℕ) (ls : List Label) where
     }
 
   -- a line that is not refused, and what follows it
-  goes_on : (n : ℕ) (held held' : List Label) (o : Option Question) (next : Outcome) (pr' : Progress) → on_line n held o next ≡ passed held' pr' → (o ≡ None) × (next ≡ passed held' pr')
+  pub goes_on : (n : ℕ) (held held' : List Label) (o : Option Question) (next : Outcome) (pr' : Progress) → on_line n held o next ≡ passed held' pr' → (o ≡ None) × (next ≡ passed held' pr')
   goes_on n held held' (Some q) next pr' e = let z : ◌≡◌ {A = ℕ} 0 1 = cc in absurd (omega arith)
   goes_on n held held' None next pr' e = (refl, e)
 

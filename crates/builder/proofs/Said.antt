@@ -32,11 +32,11 @@ said_is None ws r = refl
 said_is (Some m) ws r = cond-true _ _ _ (and_from (right_count m ws) (right_form m ws && right_range m ws) r.0 (and_from (right_form m ws) (right_range m ws) r.1 r.2))
 
 -- what is the same of a command with a label and without
-by_code_with : {X : Type 0} (f : Option Meant → X) (x : X) → ((w : ℕ) → f (Some (code w)) ≡ x) → ((w : ℕ) (l : List ℕ) → f (Some (labelled w l)) ≡ x) → (w : ℕ) (o : Option (List ℕ)) → f (Some (code_with w o)) ≡ x
+pub by_code_with : {X : Type 0} (f : Option Meant → X) (x : X) → ((w : ℕ) → f (Some (code w)) ≡ x) → ((w : ℕ) (l : List ℕ) → f (Some (labelled w l)) ≡ x) → (w : ℕ) (o : Option (List ℕ)) → f (Some (code_with w o)) ≡ x
 by_code_with f x plain with-label w None = plain w
 by_code_with f x plain with-label w (Some l) = with-label w l
 
-end_by : {X : Type 0} (f : Option Meant → X) (x : X) → ((n : ℕ) → f (Some (end n)) ≡ x) → ((l : List ℕ) → f (Some (end_at l)) ≡ x) → (n : ℕ) (o : Option (List ℕ)) → f (Some (end_with n o)) ≡ x
+pub end_by : {X : Type 0} (f : Option Meant → X) (x : X) → ((n : ℕ) → f (Some (end n)) ≡ x) → ((l : List ℕ) → f (Some (end_at l)) ≡ x) → (n : ℕ) (o : Option (List ℕ)) → f (Some (end_with n o)) ≡ x
 end_by f x plain with-label n None = plain n
 end_by f x plain with-label n (Some l) = with-label l
 

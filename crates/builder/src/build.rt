@@ -5,6 +5,7 @@ ghost use Rattle.bounded.specs.Held.{entries, room, KeepsRest};
 ghost use Rattle.executable.specs.Check.{contents, checked};
 ghost use Rattle.assembler.specs.Assembled.{assembled, answer_of, output_of};
 ghost use Rattle.builder.specs.Built.{text_parts, numbers_of, summary_of, labels_left};
+ghost use Rattle.builder.specs.Standing.{ExactlyFirstOfAll};
 
 use crate::summary::Summary;
 use assembler::assemble::assemble;
@@ -28,7 +29,9 @@ fn summarize(size: usize, executable: Executable<'_>) -> Summary
 }
 
 /// Assembles a text, and tells the numbers of the executable. What is written is always accepted by the check, and its
-/// parts are what the lines of the text say; the labels left are those of the lines before the refused one, or all.
+/// parts are what the lines of the text say; the labels left are those of the lines before the refused one, or all. A
+/// text is refused exactly by the first question with a no, where each line is asked by what stands on the lines before
+/// it.
 pub fn build(
     text: &[u8],
     labels: &mut BoundedList<Label>,
@@ -39,6 +42,7 @@ pub fn build(
     ensures output { out.new ≡ output_of (assembled text.now (room labels.old) (length out.old)) out.old }
     ensures accepted { IfOk result (λ s. checked (take s.length out.new) ≡ Ok (text_parts text.now)) }
     ensures rest { KeepsRest labels.old labels.new }
+    ensures first { ExactlyFirstOfAll text.now (room labels.old) (length out.old) result }
 {
     let length = assemble(text, labels, out)?;
     match check(&out[..length]) {

@@ -2,7 +2,7 @@
 use Rattle.std.specs.Prelude.{ℕ, ◌-◌, Bool, cond, ◌&&◌, ◌||◌, List, [], ◌∷◌, length, take, is_some, Some, None, Option, ◌==◌, nat_le, slice_index}
 use Rattle.lexer.specs.declared.word.Token.{Token}
 use Rattle.lexer.specs.declared.word.Word.{Word}
-use Rattle.lexer.specs.declared.word.Word.TheVariants.{Name, Register, Number, Text}
+use Rattle.lexer.specs.declared.word.Word.TheVariants.{Label, Name, Register, Number, Text}
 
 -- a word by its kind and its bytes
 pub data Shown : Type 0 where
@@ -14,10 +14,19 @@ pub data Shown : Type 0 where
 
 -- a word of the lexer by its kind and its bytes
 abbrev pub shown : Word → Shown
+shown (Label s) = label s.now
 shown (Name s) = name s.now
 shown (Register s) = register s.now
 shown (Number s) = number s.now
 shown (Text s) = string s.now
+
+-- a word of the lexer is a label
+abbrev pub IsLabel : Word → Type 0
+IsLabel (Label s) = Unit {0}
+IsLabel (Name s) = ⊥
+IsLabel (Register s) = ⊥
+IsLabel (Number s) = ⊥
+IsLabel (Text s) = ⊥
 
 -- the bytes of a word of any kind: of a label, those before its colon
 abbrev pub bytes_of : Shown → List ℕ
@@ -55,10 +64,10 @@ abbrev pub tell : Option Token → Option (ℕ × ℕ × Shown)
 tell None = None
 tell (Some t) = Some (t.line, t.place, shown t.word)
 
--- a word that is a label: its line, its place, and its bytes before the colon
-abbrev pub told_label : Option (ℕ × ℕ × Shown) → Option (ℕ × ℕ × List ℕ)
+-- a word that is a label, with its line and its place; none where it is another
+abbrev pub told_label : Option (ℕ × ℕ × Shown) → Option (ℕ × ℕ × Shown)
 told_label None = None
-told_label (Some (n, p, label w)) = Some (n, p, w)
+told_label (Some (n, p, label w)) = Some (n, p, label w)
 told_label (Some (n, p, name w)) = None
 told_label (Some (n, p, register w)) = None
 told_label (Some (n, p, number w)) = None

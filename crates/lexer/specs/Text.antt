@@ -13,7 +13,7 @@ abbrev pub lines_of : List ℕ → List (List ℕ)
 lines_of [] = [] ∷ []
 lines_of (b ∷ bs) = cond (b == 10) ([] ∷ lines_of bs) (on_first b (lines_of bs))
 
--- how many bytes a machine goes over, from a state, before the first at which it stops
+-- how many bytes an automaton goes over, from a state, before the first at which it stops
 abbrev pub goes_over : {S : Type 0} → (S → ℕ → Bool) → (S → ℕ → S) → S → List ℕ → ℕ
 goes_over stop next s [] = 0
 goes_over stop next s (b ∷ bs) = cond (stop s b) 0 (suc (goes_over stop next (next s b) bs))

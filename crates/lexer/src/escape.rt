@@ -7,11 +7,11 @@ ghost use Rattle.lexer.specs.Escape.{escaped_as};
 pub fn escaped(byte: u8) -> Option<u8>
     ensures { result ≡ escaped_as byte }
 {
-    match byte {
-        b'n' => Some(10),
-        b'0' => Some(0),
-        b'"' => Some(34),
-        b'\\' => Some(92),
+    match byte as char {
+        'n' => Some(10),
+        '0' => Some(0),
+        '"' => Some(34),
+        '\\' => Some(92),
         _ => None,
     }
 }

@@ -3,9 +3,11 @@
 ghost use Rattle.std.specs.Prelude.{◌≡◌};
 ghost use Rattle.lexer.specs.Shown.{shown, kind_of, register_number};
 
-/// A word of the text that is no label.
+/// A word of the text.
 #[derive(Clone, Copy)]
 pub enum Word<'a> {
+    /// The first word of a line where it ends in a colon, without that colon.
+    Label(&'a [u8]),
     /// Any word that is of no other kind.
     Name(&'a [u8]),
     /// r0 to r15.
@@ -22,14 +24,6 @@ pub struct Token<'a> {
     pub line: usize,
     pub place: usize,
     pub word: Word<'a>,
-}
-
-/// The label that a line begins with, without its colon, with its line and its place in the text.
-#[derive(Clone, Copy)]
-pub struct LineLabel<'a> {
-    pub line: usize,
-    pub place: usize,
-    pub name: &'a [u8],
 }
 
 /// The number of a register's name, or none for another word.

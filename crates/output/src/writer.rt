@@ -27,7 +27,7 @@ impl<'a> Writer<'a> {
         Writer::at_place(out, 0)
     }
 
-    /// A text of which so many bytes are before the next one, over an output that stays as it is.
+    /// A text that already has `place` bytes: its next byte goes to that place of the output, which stays as it is.
     pub fn at_place(out: &'a mut [u8], place: usize) -> Writer<'a>
         ensures output { result.out.now ≡ out.old }
         ensures lender { result.out.ghost_name ≡ out.entry.ghost_name }

@@ -6,11 +6,11 @@ ghost use Rattle.lexer.specs.Cursor.{words_in, kinds_in, past_word, Begins, Spli
 ghost use Rattle.lexer.specs.Divided.{Divided};
 ghost use Rattle.lexer.specs.Parts.{StandsAt};
 ghost use Rattle.lexer.specs.Text.{tail_of, blanks};
-ghost use Rattle.lexer.specs.Shown.{shown, bytes_of, tell, told_label, first_told, first_shown};
+ghost use Rattle.lexer.specs.Shown.{shown, bytes_of, tell, told_label, first_told, first_shown, IsLabel};
 
 use crate::inside::split_word;
 use crate::lines::Line;
-use crate::word::{LineLabel, Token, kind_of};
+use crate::word::{Token, Word, kind_of};
 use crate::words::Words;
 
 impl<'a> Line<'a> {
@@ -53,22 +53,24 @@ impl<'a> Words<'a> {
     }
 
     /// Takes the next word if it ends in a colon: the label that a line may begin with.
-    pub fn take_label(&mut self) -> Option<LineLabel<'a>>
-        ensures told { option_map (λ l. (l.line, l.place, l.name.now)) result ≡ told_label (first_told self.old.line true (self.old.place + blanks self.old.rest.now) (words_in self.old)) }
+    pub fn take_label(&mut self) -> Option<Token<'a>>
+        ensures told { tell result ≡ told_label (first_told self.old.line true (self.old.place + blanks self.old.rest.now) (words_in self.old)) }
+        ensures label { IfSome result (λ t. IsLabel t.word) }
         ensures left { words_in self.new ≡ (if is_some result then tail_of (words_in self.old) else words_in self.old) }
         ensures unchanged { IfNone result (self.new ≡ self.old) }
         ensures place { self.new.place ≡ (if is_some result then past_word self.old else self.old.place) }
         ensures line { self.new.line ≡ self.old.line }
-        ensures stands { (text : List ℕ) → StandsAt text self.old.place self.old.rest.now → IfSome result (λ l. StandsAt text l.place l.name.now) }
+        ensures stands { (text : List ℕ) → StandsAt text self.old.place self.old.rest.now → IfSome result (λ t. StandsAt text t.place (bytes_of (shown t.word))) }
         ensures still { (text : List ℕ) → StandsAt text self.old.place self.old.rest.now → StandsAt text self.new.place self.new.rest.now }
     {
         let (place, word, after) = self.split_first()?;
         let [name @ .., b':'] = word else {
             return None;
         };
+        let word = Word::Label(name);
         let line = self.line;
         *self = after;
-        Some(LineLabel { line, place, name })
+        Some(Token { line, place, word })
     }
 
     /// The next word, if there is one.

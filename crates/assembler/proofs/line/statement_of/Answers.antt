@@ -5,7 +5,7 @@ use Rattle.lexer.specs.Shown.{shown, first_shown, kind_of}
 use Rattle.lexer.specs.Text.{tail_of}
 use Rattle.assembler.specs.Lines.{named, said_by, statement_in}
 use Rattle.assembler.specs.Statements.{meant, read_by}
-use Rattle.assembler.proofs.Parted.{said_told}
+use Rattle.assembler.proofs.Emission.{said_told}
 use Rattle.assembler.proofs.line.statement_of.Goals as goal
 
 pub returns-in_err-next_word : goal.returns-in_err-next_word
