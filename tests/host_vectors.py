@@ -42,14 +42,9 @@ def sheet_items(records):
     return items, False
 
 
-def run(kind, writes, room, items, spoiled, calls):
-    """What a case prints past its first line."""
-    each = 9 if kind == "tape" else 1
+def make_calls(items, spoiled, left, calls):
+    """What calls print, and the items that they write."""
     lines, written, items = [], [], list(items)
-    left = writes
-    if writes > 65536 or each * writes > room:
-        lines.append("  refused 46")
-        left = 0
     for call in calls:
         name, _, value = call.partition("=")
         if value:
@@ -65,6 +60,15 @@ def run(kind, writes, room, items, spoiled, calls):
             lines.append("  refused 44")
         else:
             lines.append("  %s %x" % items.pop(0))
+    return lines, written
+
+
+def run(kind, writes, room, items, spoiled, calls):
+    """What a case of a tape or a sheet prints past its first line."""
+    each = 9 if kind == "tape" else 1
+    refused = writes > 65536 or each * writes > room
+    answers, written = make_calls(items, spoiled, 0 if refused else writes, calls)
+    lines = (["  refused 46"] if refused else []) + answers
     if kind == "tape":
         data = b"".join(bytes([CODES[n][0]]) + v.to_bytes(CODES[n][1], "little") for n, v in written)
         lines.append("  written " + data.hex())
@@ -89,6 +93,15 @@ def sheet(name, writes, room, records, *calls):
     text = ",".join("%d:%x" % r for r in records) or "-"
     head = "%s sheet %d %d %s %s" % (name, writes, room, text, " ".join(calls))
     CASES.append((head.rstrip(), ["%s:" % name] + run("sheet", writes, room, items, spoiled, calls)))
+
+
+def counting(name, next, end, *calls):
+    """A case of a counting host: at most the first 100 numbers are made here, more than any case gets."""
+    items = [("number", n) for n in range(next, min(end, next + 100))]
+    lines, written = make_calls(items, False, 16, calls)
+    head = "%s counting %d %d %s" % (name, next, end, " ".join(calls))
+    lines += ["  written"] + ["  %s %x" % item for item in written]
+    CASES.append((head.rstrip(), ["%s:" % name] + lines))
 
 
 GETS = ("number", "real", "character")
@@ -142,6 +155,16 @@ sheet("sheet-65537-writes", 65537, 70000, [], "number=1")
 sheet("sheet-most-writes", 2**64 - 1, 64, [], "number=1")
 tape("tape-both-ways", 2, 20, GOOD, "number", "number=5", "character", "real=406fe00000000000", "real", "character=41", "character")
 sheet("sheet-both-ways", 2, 3, [(1, 5), (2, 6), (3, 65)], "number", "number=5", "character", "real=6", "real", "character=41", "character")
+for next, end in ((0, 0), (5, 5), (6, 5), (2**32 - 1, 0), (2**32 - 1, 2**32 - 1)):
+    counting("counting-%d-to-%d" % (next, end), next, end, *GETS)
+for next, end in ((0, 1), (0, 3), (7, 9), (255, 257), (2**31 - 1, 2**31 + 1), (2**32 - 3, 2**32 - 1), (2**32 - 2, 2**32 - 1)):
+    counting("counting-%d-to-%d" % (next, end), next, end, *["number"] * (end - next + 2))
+counting("counting-most-numbers", 0, 2**32 - 1, *["number"] * 20)
+counting("counting-refused-is-not-taken", 3, 5, "real", "number", "character", "real", "number", "real", "number")
+for count in (1, 15, 16, 17, 18):
+    counting("counting-%d-writes" % count, 0, 0, *["number=%x" % n for n in range(count)])
+counting("counting-each-kind", 0, 0, *WRITE)
+counting("counting-both-ways", 8, 10, "number", "real=8", "number", "character=9", "number", "number=0")
 
 folder = os.path.join(os.path.dirname(os.path.abspath(__file__)), "..", "crates", "host_cases")
 with open(os.path.join(folder, "stdin"), "w") as out:

@@ -1,6 +1,6 @@
 -- An item written to a lent output.
 use Rattle.std.proofs.Common.{◌≡◌, ℕ, ◌+◌, ◌-◌, ◌≤◌, List, [], ◌∷◌, ◌++◌, length, take, drop, sym, ap, ◌∙◌, subst, arith, append-nil, append_assoc, length-append, length-drop, zero-add}
-use Rattle.std.proofs.lemmas.List.{length-take-le, take_at, take_rest, drop-drop, drop_all}
+use Rattle.std.proofs.lemmas.List.{length-take-le, take_at, take_rest, drop_at, drop-drop, drop_all}
 use Rattle.std.proofs.lemmas.List.Edits.{sets, sets-eq}
 use Rattle.std.proofs.lemmas.Grind.{flat_map-append}
 use borrow.Rule.Slice.PartMut.{put_mid, mid_of}
@@ -34,12 +34,13 @@ module _ {X : Type 0} {c : Code X} {most : ℕ} (laws : CodeLaws c most) where
       let few = laws.short x in
       let fits : at + length (c.coded x) ≤ length out = omega arith in
       let all : after ≡ take at out ++ c.coded x ++ drop (at + length (c.coded x)) out = ap (put_mid at (length out - at) out) stored ∙ laid out (c.coded x) at fits in
-      let front : take (at + n) after ≡ take at out ++ c.coded x =
-      ap (take (at + n)) all ∙ take_at (take at out ++ c.coded x) _ (at + n) (omega (arith, length-append (take at out) (c.coded x), length-take-le at out (omega arith))) in
+      let long : length (take at out ++ c.coded x) ≡ at + n = omega (arith, length-append (take at out) (c.coded x), length-take-le at out (omega arith)) in
+      let front : take (at + n) after ≡ take at out ++ c.coded x = ap (take (at + n)) all ∙ take_at (take at out ++ c.coded x) _ (at + n) long in
       record {
         laid = all;
         counted = count;
         short = omega arith;
         reads = ap c.items front ∙ coded_items (take at out) x range is;
         coded = subst (IsCoded c) (sym front) (coded_more (take at out) x range is);
+        rest = ap (drop (at + n)) all ∙ drop_at (take at out ++ c.coded x) _ (at + n) long ∙ ap (λ (k : ℕ). drop (at + k) out) (sym count);
       }

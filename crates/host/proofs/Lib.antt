@@ -1,3 +1,4 @@
 pub mod Appends
 pub mod Pushes
 pub mod SheetForms
+pub mod Transcripts

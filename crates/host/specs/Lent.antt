@@ -22,10 +22,11 @@ output_after c left place item output = cond (nat_lt 0 left) (take place output 
 abbrev pub place_after : {X : Type 0} → Code X → ℕ → ℕ → Item → ℕ
 place_after c left place item = cond (nat_lt 0 left) (place + length (c.coded item)) place
 
--- some units more are the units of one more item, and all are still those of the items that are read from them
+-- some units more are the units of one more item, all are still those of the items that are read from them, and the units past them are as they were
 pub record Appended {X : Type 0} (c : Code X) (most : ℕ) (before : List X) (place : ℕ) (item : Item) (count : ℕ) (after : List X) : Type 0 where
   pub laid : after ≡ take place before ++ c.coded item ++ drop (place + length (c.coded item)) before
   pub counted : count ≡ length (c.coded item)
   pub short : count ≤ most
   pub reads : c.items (take (place + count) after) ≡ c.items (take place before) ++ item ∷ []
   pub coded : IsCoded c (take (place + count) after)
+  pub rest : drop (place + count) after ≡ drop (place + count) before

@@ -1,3 +1,4 @@
+pub mod CodeParts
 pub mod Codes
 pub mod Firsts
 pub mod Lent
@@ -8,6 +9,9 @@ pub mod Questions
 pub mod Ranges
 pub mod Rooms
 pub mod SheetLaws
+pub mod SheetParts
 pub mod Sheets
 pub mod TapeLaws
+pub mod TapeParts
 pub mod Tapes
+pub mod Transcripts

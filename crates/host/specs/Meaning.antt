@@ -52,8 +52,8 @@ abbrev pub after_get : Kind → Meaning → Meaning
 after_get k m = record { waiting = rest_of k m.waiting; spoiled = m.spoiled; written = m.written; left = m.left }
 
 -- what writing answers
-abbrev pub written : Meaning → Result Unit Refusal
-written m = cond (nat_lt 0 m.left) (Ok tt) (Err NoWriteLeft)
+abbrev pub write_answer : Meaning → Result Unit Refusal
+write_answer m = cond (nat_lt 0 m.left) (Ok tt) (Err NoWriteLeft)
 
 -- the meaning after writing: the item is appended and one write fewer is left, or all is the same where none is left
 abbrev pub after_write : Item → Meaning → Meaning

@@ -4,8 +4,10 @@ use Rattle.std.proofs.lemmas.Bool.{lt-ltb, true≢false}
 use Rattle.host.specs.declared.item.Item.{Item}
 use Rattle.host.specs.declared.item.Item.TheVariants.{Number, Real, Character}
 use Rattle.host.specs.declared.record.Record.{Record}
-use Rattle.host.specs.Codes.{CodeLaws}
+use Rattle.host.specs.Codes.{ReadsAs, CodeLaws}
+use Rattle.host.specs.CodeParts.{begin_no_item}
 use Rattle.host.specs.Ranges.{InRange}
+use Rattle.host.specs.SheetParts.{sheet_parted}
 use Rattle.host.specs.Sheets.{item_of, items, spoiled, spoils, record_of, sheet_code}
 
 -- records after records that end clean
@@ -31,11 +33,18 @@ item_back (Number n) h = rw (lt-ltb n (2 ^ 32) h)
 item_back (Real n) h = refl
 item_back (Character n) h = rw (lt-ltb n 256 h)
 
+empty : ReadsAs sheet_code [] []
+empty = record { items = refl; clean = refl }
+
+reads : (x : Item) → InRange x → ReadsAs sheet_code (record_of x ∷ []) (x ∷ [])
+reads x range = record { items = rw (item_back x range) refl; clean = rw (item_back x range) refl }
+
 pub sheet_laws : CodeLaws sheet_code 1
 sheet_laws = record {
-  empty = record { items = refl; clean = refl };
+  empty = empty;
   items_append = items_after;
   spoiled_append = spoiled_after;
-  coded = λ x range. record { items = rw (item_back x range) refl; clean = rw (item_back x range) refl };
+  coded = reads;
   short = λ x. omega arith;
+  parted = λ us _. sheet_parted (begin_no_item sheet_code empty items_after reads) us;
 }

@@ -55,6 +55,6 @@ record_of (Number n) = record { kind = 1; value = n }
 record_of (Real n) = record { kind = 2; value = n }
 record_of (Character n) = record { kind = 3; value = n }
 
--- the code of a sheet: one record for each item
+-- the code of a sheet: one record for each item, and each record is a unit
 abbrev pub sheet_code : Code Record
-sheet_code = record { items = items; spoiled = spoiled; coded = λ x. record_of x ∷ [] }
+sheet_code = record { items = items; spoiled = spoiled; coded = λ x. record_of x ∷ []; is_unit = λ r. true }

@@ -1,11 +1,13 @@
 -- The laws of the code of a tape.
 use Rattle.std.proofs.Common.{◌≡◌, ℕ, zero, suc, ◌/◌, ◌^◌, ◌<◌, ◌≤◌, Bool, true, false, cond, ltb, leb, List, [], ◌∷◌, ◌++◌, length, refl, ap, zero-le, le_of_suc-le-suc, not-suc-le-zero, pow-suc, arith, length-append}
 use Rattle.std.proofs.lemmas.List.{take-append-le}
-use Rattle.std.proofs.lemmas.Bool.{and_parts, and_from, leb-true, le-leb, true≢false}
+use Rattle.std.proofs.lemmas.Bool.{and_parts, and_from, le-leb, true≢false}
 use Rattle.host.specs.declared.item.Item.{Item}
 use Rattle.host.specs.declared.item.Item.TheVariants.{Number, Real, Character}
-use Rattle.host.specs.Codes.{CodeLaws}
+use Rattle.host.specs.Codes.{ReadsAs, CodeLaws}
+use Rattle.host.specs.CodeParts.{begin_no_item}
 use Rattle.host.specs.Ranges.{InRange}
+use Rattle.host.specs.TapeParts.{whole_fits, tape_parted}
 use Rattle.host.specs.Tapes.{little_endian, bytes_of, size, whole, items_from, spoiled_from, items, spoiled, coded, tape_code}
 
 -- a number is what its bytes write
@@ -14,10 +16,6 @@ number_back zero n h = omega arith
 number_back (suc k) n h =
     let less : n / 256 < 256 ^ k = omega (arith, pow-suc 256 k) in
     omega (arith, number_back k (n / 256) less)
-
--- the operand of a whole item is there
-pub whole_fits : (c : ℕ) (bs : List ℕ) → whole c bs ≡ true → size c ≤ length bs
-whole_fits c bs w = leb-true (size c) (length bs) (and_parts (ltb 0 (size c)) (leb (size c) (length bs)) w).1
 
 -- bytes after bytes that end clean
 whole_longer : (c : ℕ) (xs ys : List ℕ) → whole c xs ≡ true → whole c (xs ++ ys) ≡ true
@@ -64,11 +62,21 @@ is_short (Number n) = omega arith
 is_short (Real n) = omega arith
 is_short (Character n) = omega arith
 
+empty : ReadsAs tape_code [] []
+empty = record { items = refl; clean = refl }
+
+items_append : (us vs : List ℕ) → spoiled us ≡ false → items (us ++ vs) ≡ items us ++ items vs
+items_append us vs c = items_after 0 us vs zero-le c
+
+reads : (x : Item) → InRange x → ReadsAs tape_code (coded x) (x ∷ [])
+reads x range = record { items = item_back x range; clean = ends_clean x }
+
 pub tape_laws : CodeLaws tape_code 9
 tape_laws = record {
-  empty = record { items = refl; clean = refl };
-  items_append = λ us vs c. items_after 0 us vs zero-le c;
+  empty = empty;
+  items_append = items_append;
   spoiled_append = λ us vs c. spoiled_after 0 us vs zero-le c;
-  coded = λ x range. record { items = item_back x range; clean = ends_clean x };
+  coded = reads;
   short = is_short;
+  parted = λ us are. tape_parted (begin_no_item tape_code empty items_append reads) us are;
 }

@@ -60,6 +60,6 @@ coded (Number n) = 0x4E ∷ bytes_of 4 n
 coded (Real n) = 0x44 ∷ bytes_of 8 n
 coded (Character n) = 0x43 ∷ bytes_of 1 n
 
--- the code of a tape
+-- the code of a tape, whose units are bytes
 abbrev pub tape_code : Code ℕ
-tape_code = record { items = items; spoiled = spoiled; coded = coded }
+tape_code = record { items = items; spoiled = spoiled; coded = coded; is_unit = λ b. nat_lt b 256 }

@@ -1,6 +1,6 @@
 //! Units that items are written in.
 
-ghost use Rattle.std.specs.Prelude.{◌≡◌, ℕ};
+ghost use Rattle.std.specs.Prelude.{◌≡◌, ℕ, true, All};
 ghost use Rattle.host.specs.Codes.{Code, CodeLaws, PushedIfRoom};
 ghost use Rattle.host.specs.Firsts.{StandsFirst};
 ghost use Rattle.host.specs.Ranges.{InRange};
@@ -22,9 +22,10 @@ pub trait CodeUnit: Copy {
     /// The most units that an item takes.
     const MOST: u8;
 
-    /// Reads the item that stands first, or says why there is none.
+    /// Reads the item that stands first, or says why there is none. All values that can stand there are units.
     fn first_of(units: &[Self]) -> Result<Found, Refusal>
-        ensures { StandsFirst code.items code.spoiled units.now result };
+        ensures value { StandsFirst code.items code.spoiled units.now result }
+        ensures units { All (λ u. code.is_unit u ≡ true) units.now };
 
     /// Appends the units of an item to a list, where it has room for them.
     fn push_item(item: Item, list: &mut BoundedList<'_, Self>) -> Result<(), Full>

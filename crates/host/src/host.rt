@@ -1,7 +1,7 @@
 //! What every host keeps.
 
 ghost use Rattle.std.specs.Prelude.{◌≡◌, ℕ, List};
-ghost use Rattle.host.specs.Meaning.{Meaning, got, after_get, written, after_write};
+ghost use Rattle.host.specs.Meaning.{Meaning, got, after_get, write_answer, after_write};
 ghost use Rattle.host.specs.Questions.{OnlyFirstNo, OnlyNoWriteLeft};
 
 use crate::item::{Item, Kind};
@@ -24,7 +24,7 @@ pub trait Host {
 
     /// Writes an item behind those that are written, or refuses and changes nothing.
     fn write(&mut self, item: Item) -> Result<(), Refusal>
-        ensures value { result ≡ written (meaning self.old) }
+        ensures value { result ≡ write_answer (meaning self.old) }
         ensures after { meaning self.new ≡ after_write item (meaning self.old) }
         ensures first { OnlyNoWriteLeft (meaning self.old) result }
         ensures lender { roots self.new ≡ roots self.old };

@@ -12,3 +12,4 @@ pub mod refusal;
 pub mod room;
 pub mod sheet;
 pub mod tape;
+pub mod transcript;

@@ -44,7 +44,7 @@ fn item_of(kind: Kind, value: &str) -> anyhow::Result<Item> {
 }
 
 /// Prints an item.
-fn show_item(rt: &HostRuntime, item: Item) -> anyhow::Result<()> {
+pub(crate) fn show_item(rt: &HostRuntime, item: Item) -> anyhow::Result<()> {
     match item {
         Item::Number(n) => println!(rt; "  number {n:x}")?,
         Item::Real(bits) => println!(rt; "  real {bits:x}")?,

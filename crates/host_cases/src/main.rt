@@ -1,14 +1,16 @@
 //! Runs the table of host cases on standard input. Each line is a case:
 //!
 //! ```text
-//! NAME HOST WRITES ROOM INPUT CALL..
+//! NAME tape|sheet WRITES ROOM INPUT CALL..
+//! NAME counting NEXT END CALL..
 //! ```
 //!
-//! HOST is `tape` or `sheet`, WRITES the number of writes that is asked for, ROOM the length of the output that is lent
-//! (bytes or records), and INPUT what waits: the bytes of a tape in hexadecimal, or the records of a sheet as KIND:VALUE
-//! (decimal and hexadecimal) with commas between them, or `-` for nothing. A call `number`, `real` or `character` gets
-//! an item of that kind; `number=X` and so on writes one, with X in hexadecimal. For each case it prints whether there
-//! is room, what each call answered, what was written, and whether the output past it is as it was.
+//! WRITES is the number of writes that is asked for, ROOM the length of the output that is lent (bytes or records), and
+//! INPUT what waits: the bytes of a tape in hexadecimal, or the records of a sheet as KIND:VALUE (decimal and hexadecimal)
+//! with commas between them, or `-` for nothing. A counting host gives the numbers from NEXT up to, and without, END, both
+//! in decimal. A call `number`, `real` or `character` gets an item of that kind; `number=X` and so on writes one, with X in
+//! hexadecimal. For each case it prints whether there is room, what each call answered and what was written, and of a
+//! tape or a sheet whether the output past it is as it was.
 
 #![tactic(auto)]
 

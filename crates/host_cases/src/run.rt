@@ -1,10 +1,11 @@
 //! Running a case.
 
-use crate::call::make_call;
-use crate::case::{Case, HostName, read_case};
+use crate::call::{Call, make_call, show_item};
+use crate::case::{CaseHost, Lent, read_case};
 use crate::units::CaseUnit;
 use anyhow::Context;
 use cases::filled::is_filled;
+use counting::Counting;
 use host::lent_host::LentHost;
 use host::record::Record;
 use host::room::ask_room;
@@ -14,22 +15,24 @@ pub(crate) fn run_line(rt: &HostRuntime, line: &str) -> anyhow::Result<()> {
     let case = read_case(rt, line)?;
     let name = case.name.as_str();
     println!(rt; "{name}:")?;
-    match case.host {
-        HostName::Tape => run_case::<u8>(rt, &case),
-        HostName::Sheet => run_case::<Record>(rt, &case),
+    let calls = case.calls.as_slice();
+    match &case.host {
+        CaseHost::Tape(lent) => run_lent::<u8>(rt, lent, calls),
+        CaseHost::Sheet(lent) => run_lent::<Record>(rt, lent, calls),
+        CaseHost::Counting(next, end) => run_counting(rt, *next, *end, calls),
     }
 }
 
-/// Runs a case over a host of some unit.
-fn run_case<U: CaseUnit>(rt: &HostRuntime, case: &Case) -> anyhow::Result<()> {
-    let input = U::read_all(rt, case.input.as_str())?;
-    let mut output = vec![in rt.alloc(); U::FILLER; case.room]?;
-    if let Err(refusal) = ask_room(output.as_slice(), case.writes) {
+/// Runs a case over a host over lent units.
+fn run_lent<U: CaseUnit>(rt: &HostRuntime, lent: &Lent, calls: &[Call]) -> anyhow::Result<()> {
+    let input = U::read_all(rt, lent.input.as_str())?;
+    let mut output = vec![in rt.alloc(); U::FILLER; lent.room]?;
+    if let Err(refusal) = ask_room(output.as_slice(), lent.writes) {
         let number = refusal.number();
         println!(rt; "  refused {number}")?;
     }
-    let mut host = LentHost::new(input.as_slice(), output.as_mut_slice(), case.writes);
-    for call in &case.calls {
+    let mut host = LentHost::new(input.as_slice(), output.as_mut_slice(), lent.writes);
+    for call in calls {
         make_call(rt, &mut host, *call)?;
     }
     U::show_all(rt, host.written())?;
@@ -44,5 +47,18 @@ fn run_case<U: CaseUnit>(rt: &HostRuntime, case: &Case) -> anyhow::Result<()> {
         "changed"
     };
     println!(rt; "  rest {state}")?;
+    Ok(())
+}
+
+/// Runs a case over a counting host.
+fn run_counting(rt: &HostRuntime, next: u32, end: u32, calls: &[Call]) -> anyhow::Result<()> {
+    let mut host = Counting::new(next, end);
+    for call in calls {
+        make_call(rt, &mut host, *call)?;
+    }
+    println!(rt; "  written")?;
+    for item in host.written() {
+        show_item(rt, *item)?;
+    }
     Ok(())
 }

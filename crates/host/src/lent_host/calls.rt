@@ -1,7 +1,7 @@
 //! The calls of a host over lent units.
 
-ghost use Rattle.std.specs.Prelude.{◌≡◌, ◌+◌, ◌≤◌, [], ◌∷◌, length, take};
-ghost use Rattle.host.specs.Meaning.{got, after_get, written, after_write};
+ghost use Rattle.std.specs.Prelude.{◌≡◌, ◌+◌, ◌≤◌, [], ◌∷◌, length, take, drop};
+ghost use Rattle.host.specs.Meaning.{got, after_get, write_answer, after_write};
 ghost use Rattle.host.specs.Questions.{OnlyFirstNo, OnlyNoWriteLeft};
 ghost use Rattle.host.specs.Codes.{all_coded, ReadsAs};
 ghost use Rattle.host.specs.Lent.{new_lent, output_after, place_after, Appended};
@@ -92,12 +92,14 @@ impl<'i, 'o, U: CodeUnit> Host for LentHost<'i, 'o, U> {
     }
 
     fn write(&mut self, item: Item) -> Result<(), Refusal>
-        ensures value { result ≡ written (lent_meaning U.code self.old) }
+        ensures value { result ≡ write_answer (lent_meaning U.code self.old) }
         ensures after { lent_meaning U.code self.new ≡ after_write item (lent_meaning U.code self.old) }
         ensures first { OnlyNoWriteLeft (lent_meaning U.code self.old) result }
         ensures lender { self.new.output.ghost_name ∷ [] ≡ self.old.output.ghost_name ∷ [] }
         ensures output { self.new.output.now ≡ output_after U.code self.old.left self.old.at item self.old.output.now }
         ensures place { self.new.at ≡ place_after U.code self.old.left self.old.at item }
+        ensures holds { take self.new.at self.new.output.now ≡ all_coded U.code (lent_meaning U.code self.new).written }
+        ensures rest { drop self.new.at self.new.output.now ≡ drop self.new.at self.old.output.now }
     {
         if self.left == 0 {
             return Err(Refusal::NoWriteLeft);
