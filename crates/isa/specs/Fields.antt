@@ -41,3 +41,11 @@ address_field w = w % 2 ^ 20
 abbrev pub bits : ℕ → ℤ → ℕ
 bits k (pos n) = n
 bits k (negsuc n) = 2 ^ k - 1 - n
+
+-- what a modifier adds to a word, modulo 2^32
+abbrev pub modifier_word : ℕ → ℕ
+modifier_word w = bits 32 (modifier_field w)
+
+-- an immediate modulo 2^32
+abbrev pub immediate_word : ℕ → ℕ
+immediate_word w = bits 32 (immediate_field w)

@@ -4,6 +4,7 @@
 
 pub mod address;
 pub mod command;
+pub mod fetched;
 pub mod form;
 pub mod immediate;
 pub mod opcode;

@@ -13,13 +13,16 @@ use Rattle.listing.specs.declared.printout.Printed.TheVariants.{Listing, Refused
 abbrev pub taken : List ℕ → Result Parts Refusal
 taken input = cond (nat_lt 8192 (length input)) (Err OtherLength) (checked input)
 
+-- a refusal is told on one line: the word `refused` and its number
 abbrev pub refused_text : ℕ → List ℕ
 refused_text n = line_text (number_line (codes "refused") n)
 
+-- what the program prints: the listing, or the line of the refusal
 abbrev pub text_of : Result Parts Refusal → List ℕ
 text_of (Ok p) = listing p
 text_of (Err q) = refused_text (number_of q)
 
+-- whether an input is refused
 abbrev pub is_refused : Result Parts Refusal → Bool
 is_refused (Ok p) = false
 is_refused (Err q) = true

@@ -8,6 +8,7 @@ use Rattle.assembler.specs.declared.question.Refusal.{Refusal}
 use Rattle.executable.specs.Check.{Parts}
 use Rattle.report.specs.Meanings.{meaning_of}
 
+-- a text as a line
 abbrev pub line : List ℕ → List ℕ
 line text = text ++ 10 ∷ []
 

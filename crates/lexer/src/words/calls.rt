@@ -73,7 +73,7 @@ impl<'a> Words<'a> {
         Some(Token { line, place, word })
     }
 
-    /// The next word, if there is one.
+    /// The next word, if there is one, of any kind but a label.
     #[tactic(auto, using(crate::proofs::Stands::kind_bytes))]
     pub fn next_word(&mut self) -> Option<Token<'a>>
         ensures steps { YieldsFirstBy (λ t. shown t.word) kinds_in self.old result self.new }

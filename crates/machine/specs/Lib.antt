@@ -1,0 +1,11 @@
+pub mod Act
+pub mod Commands
+pub mod Cores
+pub mod Flags
+pub mod Numbers
+pub mod Outcomes
+pub mod Pairs
+pub mod Rules
+pub mod Step
+pub mod Table
+pub mod Turns

@@ -1,0 +1,10 @@
+//! Faults: steps that were not taken.
+
+use crate::cause::Cause;
+
+/// Why a step was not taken, and the address of its word.
+#[derive(Clone, Copy)]
+pub struct Fault {
+    pub cause: Cause,
+    pub address: u32,
+}

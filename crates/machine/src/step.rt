@@ -1,0 +1,86 @@
+//! Steps.
+
+ghost use Rattle.std.specs.Prelude.{◌≡◌, IfErr};
+ghost use Rattle.machine.specs.Act.{perform};
+ghost use Rattle.machine.specs.Cores.{core_of};
+ghost use Rattle.machine.specs.Outcomes.{outcome};
+ghost use Rattle.machine.specs.Rules.{rules_of};
+ghost use Rattle.machine.specs.Step.{command_act, state, step_act, stepped};
+ghost use Rattle.machine.specs.Turns.{InTurn};
+
+use crate::cause::Cause;
+use crate::fault::Fault;
+use crate::operation::Operation;
+use crate::processor::Processor;
+use crate::processor::calls::R15;
+use crate::rules::Rules;
+use crate::turn::Turn;
+use host::host::Host;
+use isa::fetched::Fetched;
+
+impl Processor {
+    /// Does the command that a word is; question 31 comes before.
+    fn command<H: Host>(
+        &mut self,
+        rules: &Rules<'_>,
+        word: Fetched,
+        cells: &mut [u32],
+        host: &mut H,
+    ) -> Result<Turn, Cause>
+        ensures value { perform (rules_of rules.now) (command_act word.word (core_of self.old)) cells.old (H.meaning host.old) ≡ outcome result (core_of self.new) cells.new (H.meaning host.new) }
+        ensures cells { IfErr result (λ _. cells.new ≡ cells.old) }
+        ensures host { IfErr result (λ _. H.meaning host.new ≡ H.meaning host.old) }
+        ensures lender { H.roots host.new ≡ H.roots host.old }
+    {
+        match word.opcode() {
+            Some(opcode) => self.execute(rules, word, Operation::of(opcode), cells, host),
+            None => Err(Cause::Opcode),
+        }
+    }
+
+    /// Fetches the word at r15 and does its command; question 30 comes before.
+    fn attempt<H: Host>(
+        &mut self,
+        rules: &Rules<'_>,
+        cells: &mut [u32],
+        host: &mut H,
+    ) -> Result<Turn, Cause>
+        ensures value { perform (rules_of rules.now) (step_act (core_of self.old) cells.old) cells.old (H.meaning host.old) ≡ outcome result (core_of self.new) cells.new (H.meaning host.new) }
+        ensures cells { IfErr result (λ _. cells.new ≡ cells.old) }
+        ensures host { IfErr result (λ _. H.meaning host.new ≡ H.meaning host.old) }
+        ensures lender { H.roots host.new ≡ H.roots host.old }
+    {
+        let address = self.register(R15) as usize;
+        if address >= cells.len() {
+            return Err(Cause::Fetch);
+        }
+        let word = Fetched {
+            word: cells[address],
+        };
+        self.advance();
+        self.command(rules, word, cells, host)
+    }
+
+    /// Takes one step over a memory and a host. A fault leaves everything as it was.
+    pub fn step<H: Host>(
+        &mut self,
+        rules: &Rules<'_>,
+        cells: &mut [u32],
+        host: &mut H,
+    ) -> Result<Turn, Fault>
+        ensures value { result ≡ (stepped (rules_of rules.now) (state (core_of self.old) cells.old (H.meaning host.old))).turn }
+        ensures after { state (core_of self.new) cells.new (H.meaning host.new) ≡ (stepped (rules_of rules.now) (state (core_of self.old) cells.old (H.meaning host.old))).state }
+        ensures turn { InTurn 30 (step_act (core_of self.old) cells.old) }
+        ensures lender { H.roots host.new ≡ H.roots host.old }
+    {
+        let address = self.register(R15);
+        let mut next = *self;
+        match next.attempt(rules, cells, host) {
+            Ok(turn) => {
+                *self = next;
+                Ok(turn)
+            }
+            Err(cause) => Err(Fault { cause, address }),
+        }
+    }
+}
