@@ -6,7 +6,7 @@ use Rattle.figures.proofs.figures.Goals as goal
 
 all : Figures
 unfolding digits mnemonic_of
-all = record { mov = refl; lc = refl; calli = refl; halt = refl; mov_line = refl; lc_line = refl; calli_line = refl; halt_line = refl; jmp_bits = refl; jmp_bits_line = refl; assembles = refl; lists = refl }
+all = record { mov = refl; lc = refl; calli = refl; halt = refl; mov_line = refl; lc_line = refl; calli_line = refl; halt_line = refl; jmp_bits = refl; jmp_bits_line = refl; jmp_bits_run = λ c. refl; quotient = refl; no_quotient = refl; shift_31 = refl; shift_32 = refl; assembles = refl; lists = refl }
 
 pub returns-clause-figures : goal.returns-clause-figures
 returns-clause-figures c = all

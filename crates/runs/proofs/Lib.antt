@@ -1,0 +1,12 @@
+pub mod Causes
+pub mod Comparing
+pub mod Faulting
+pub mod InParts
+pub mod Larger
+pub mod Loads
+pub mod Opens
+pub mod Playing
+pub mod Runs
+pub mod Summed
+pub mod Wider
+pub mod WiderRuns

@@ -1,0 +1,10 @@
+pub mod Both
+pub mod Compared
+pub mod Laws
+pub mod Loading
+pub mod Looks
+pub mod Machines
+pub mod Numbers
+pub mod Parts
+pub mod Requests
+pub mod Runs

@@ -1,0 +1,47 @@
+//! Loading an executable into a lent memory.
+
+ghost use Rattle.std.specs.Prelude.{◌≡◌, length};
+ghost use Rattle.executable.specs.Check.{contents};
+ghost use Rattle.runs.specs.Loading.{loaded, shown, cells_after, fill, memory_fits, LoadsFirstNo};
+
+use crate::loaded::Machine;
+use crate::refusal::LoadRefusal;
+use executable::check::check;
+use executable::parts::Executable;
+use executable::word::word_at;
+
+/// Question 29 of an executable and a memory of some size.
+fn memory_fits(executable: &Executable<'_>, size: usize) -> bool
+    ensures { result ≡ memory_fits (contents executable.now) size }
+{
+    let words = executable.code.len() / 4 + executable.constants.len() / 4;
+    (1_024..=1_048_576).contains(&size)
+        && words <= size
+        && (executable.first as usize) < size
+        && (executable.stack as usize) < size
+}
+
+/// Writes words of 4 bytes to the cells from the first one on, and zeros after them.
+fn fill(words: &[u8], cells: &mut [u32])
+    ensures { cells.new ≡ fill words.now (length cells.old) }
+{
+    for (index, cell) in cells.iter_mut().enumerate() {
+        *cell = word_at(words, index).unwrap_or(0);
+    }
+}
+
+impl Machine {
+    /// Loads an executable: code and constants go to the cells from 0 on, and zeros after them.
+    pub fn load(bytes: &[u8], cells: &mut [u32]) -> Result<Machine, LoadRefusal>
+        ensures value { shown result ≡ loaded bytes.now (length cells.old) }
+        ensures cells { cells.new ≡ cells_after bytes.now cells.old }
+        ensures first { LoadsFirstNo bytes.now (length cells.old) (shown result) }
+    {
+        let executable = check(bytes)?;
+        if !memory_fits(&executable, cells.len()) {
+            return Err(LoadRefusal::Memory);
+        }
+        fill(&bytes[512..], cells);
+        Ok(Machine::new(&executable, cells.len()))
+    }
+}
