@@ -11,6 +11,9 @@ Run it in a copy of the repository: it edits files and puts them back. A table h
     old: TEXT                  (stands once in that file)
     new: TEXT
 
+A bug may stand in a definition as well as in the code, to see whether a law refuses it. Its block has a line `law:` too, which
+names the law, and all places where the check finds no proof are printed and not only the first.
+
 Several `old:` or `new:` lines in a row are one text of several lines, and a block may have several edits. With words
 after the table only the bugs are planted whose first line has one of them.
 
@@ -93,10 +96,19 @@ def without(answers, crate):
         open(answers, "w", encoding="utf-8").write(text)
 
 
+def unproved(out):
+    """Every place where the check finds no proof."""
+    errors = re.findall(r"^(\S+\.antt:\d+):\d+: error(?:\[[^\]]*\])?: `([^`]+)`", out, re.M)
+    notes = re.findall(r"^note: (\S+\.rt:\d+):\d+: .*\(`([^`]+)`\)", out, re.M)
+    return sorted(set("%s %s" % place for place in errors + notes))
+
+
 def check(bug):
     status, out = rt("check", bug["crate"])
     if status == 0:
         return ["PROVED"]
+    if "law" in bug:
+        return ["refused", "; ".join(unproved(out)) or out[-300:].replace("\n", " ")]
     if "logic=not-proved" not in out:
         return ["NOT REACHED", out[-300:].replace("\n", " ")]
     errors = re.findall(r"^(\S*): error(?:\[[^\]]*\])?:? ?(.*)$", out, re.M)

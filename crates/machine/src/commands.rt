@@ -1,5 +1,5 @@
-//! The operations, by family. Each function works on a copy of the processor, with r15 past the word; of a fault that copy
-//! is thrown away. All questions come before the first effect.
+//! The operations, by family. Each function finds r15 past the word. All questions come before the first effect, so that a
+//! fault leaves registers, flags, cells and host as they are.
 
 mod cells;
 mod functions;

@@ -26,6 +26,7 @@ impl Processor {
         host: &mut H,
     ) -> Result<Turn, Cause>
         ensures value { perform (rules_of rules.now) (act_of operation (fetch word.word (core_of self.old))) cells.old (H.meaning host.old) ≡ outcome result (core_of self.new) cells.new (H.meaning host.new) }
+        ensures kept { IfErr result (λ _. core_of self.new ≡ core_of self.old) }
         ensures cells { IfErr result (λ _. cells.new ≡ cells.old) }
         ensures host { IfErr result (λ _. H.meaning host.new ≡ H.meaning host.old) }
         ensures lender { H.roots host.new ≡ H.roots host.old }

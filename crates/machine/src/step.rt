@@ -28,6 +28,7 @@ impl Processor {
         host: &mut H,
     ) -> Result<Turn, Cause>
         ensures value { perform (rules_of rules.now) (command_act word.word (core_of self.old)) cells.old (H.meaning host.old) ≡ outcome result (core_of self.new) cells.new (H.meaning host.new) }
+        ensures kept { IfErr result (λ _. core_of self.new ≡ core_of self.old) }
         ensures cells { IfErr result (λ _. cells.new ≡ cells.old) }
         ensures host { IfErr result (λ _. H.meaning host.new ≡ H.meaning host.old) }
         ensures lender { H.roots host.new ≡ H.roots host.old }
@@ -46,19 +47,26 @@ impl Processor {
         host: &mut H,
     ) -> Result<Turn, Cause>
         ensures value { perform (rules_of rules.now) (step_act (core_of self.old) cells.old) cells.old (H.meaning host.old) ≡ outcome result (core_of self.new) cells.new (H.meaning host.new) }
+        ensures kept { IfErr result (λ _. core_of self.new ≡ core_of self.old) }
         ensures cells { IfErr result (λ _. cells.new ≡ cells.old) }
         ensures host { IfErr result (λ _. H.meaning host.new ≡ H.meaning host.old) }
         ensures lender { H.roots host.new ≡ H.roots host.old }
     {
-        let address = self.register(R15) as usize;
-        if address >= cells.len() {
+        let address = self.register(R15);
+        if address as usize >= cells.len() {
             return Err(Cause::Fetch);
         }
         let word = Fetched {
-            word: cells[address],
+            word: cells[address as usize],
         };
         self.advance();
-        self.command(rules, word, cells, host)
+        match self.command(rules, word, cells, host) {
+            Ok(turn) => Ok(turn),
+            Err(cause) => {
+                self.set_register(R15, address);
+                Err(cause)
+            }
+        }
     }
 
     /// Takes one step over a memory and a host. A fault leaves everything as it was.
@@ -74,12 +82,8 @@ impl Processor {
         ensures lender { H.roots host.new ≡ H.roots host.old }
     {
         let address = self.register(R15);
-        let mut next = *self;
-        match next.attempt(rules, cells, host) {
-            Ok(turn) => {
-                *self = next;
-                Ok(turn)
-            }
+        match self.attempt(rules, cells, host) {
+            Ok(turn) => Ok(turn),
             Err(cause) => Err(Fault { cause, address }),
         }
     }

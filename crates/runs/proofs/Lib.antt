@@ -1,5 +1,6 @@
 pub mod Causes
 pub mod Comparing
+pub mod Exits
 pub mod Faulting
 pub mod InParts
 pub mod Larger

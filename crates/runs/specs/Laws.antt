@@ -1,11 +1,13 @@
 -- Laws of one run: what a larger budget and a wider permit can change.
-use Rattle.std.specs.Prelude.{◌≡◌, ℕ, ◌≤◌, Bool, true, false, ◌||◌, Ok, Err, Result, ◌==◌}
+use Rattle.std.specs.Prelude.{◌≡◌, ℕ, ◌≤◌, Bool, true, false, ◌||◌, List, length, Ok, Err, Result, ◌==◌}
+use Rattle.host.specs.Meaning.{Meaning}
 use Rattle.permit.specs.Rights.{Rights, register_level}
 use Rattle.machine.specs.Numbers.{number_of}
 use Rattle.machine.specs.declared.cause.Cause.{Cause}
 use Rattle.machine.specs.declared.fault.Fault.{Fault}
-use Rattle.runs.specs.Runs.{Settings, Held, called}
+use Rattle.runs.specs.Runs.{Settings, Held, held, called}
 use Rattle.runs.specs.declared.refusal.CallRefusal.{CallRefusal}
+use Rattle.runs.specs.declared.refusal.CallRefusal.TheVariants.{HasExited}
 use Rattle.runs.specs.declared.report.Ending.{Ending}
 use Rattle.runs.specs.declared.report.Ending.TheVariants.{Spent, Halted, Exited, Fault as Faulted}
 use Rattle.runs.specs.declared.report.Report.{Report}
@@ -57,3 +59,10 @@ abbrev pub SpentAtPermitFaults : Settings → Held → Type 0
 SpentAtPermitFaults s h =
     (q : Rights) → Wider s.rights q → (n : ℕ) (f : Fault) → (called s h).answer ≡ Ok (record { steps = n; ending = Faulted f }) → is_permit_fault f.cause ≡ true
     → called (record { rights = q; budget = n }) h ≡ record { answer = Ok (record { steps = n; ending = Spent }); held = (called s h).held }
+
+-- after a run that ended in an exit no run is taken: 51 refuses it, whatever the settings, the cells and the host are
+abbrev pub NoRunAfterExit : Settings → Held → Type 0
+NoRunAfterExit s h =
+    (n code : ℕ) → (called s h).answer ≡ Ok (record { steps = n; ending = Exited code })
+    → (t : Settings) (c : List ℕ) (m : Meaning) → length c ≡ (called s h).held.machine.size
+    → (called t (held (called s h).held.machine c m)).answer ≡ Err HasExited

@@ -1,5 +1,6 @@
 -- Loading an executable into a memory.
-use Rattle.std.specs.Prelude.{◌≡◌, ℕ, ◌+◌, ◌/◌, ◌<◌, Bool, true, false, cond, ◌&&◌, List, length, map, drop, Ok, Err, Result, nat_le, nat_lt, slice_index}
+use Rattle.std.specs.Prelude.{◌≡◌, ℕ, ◌+◌, ◌/◌, ◌<◌, ◌≤◌, Bool, true, false, cond, ◌&&◌, List, length, map, drop, Ok, Err, Result, nat_le, nat_lt, slice_index}
+use Rattle.machine.specs.Cores.{in_register}
 use Rattle.std.specs.List.{range_with_len}
 use Rattle.executable.specs.Bytes.{words_of}
 use Rattle.executable.specs.Check.{Parts, checked}
@@ -57,3 +58,9 @@ load_asked Memory bs size = fits_by (checked bs)
 abbrev pub LoadsFirstNo : List ℕ → ℕ → Result Machine LoadRefusal → Type 0
 LoadsFirstNo bs size (Ok m) = (q : LoadRefusal) → load_asked q bs size ≡ true
 LoadsFirstNo bs size (Err q) = (load_asked q bs size ≡ false) × ((p : LoadRefusal) → load_number p < load_number q → load_asked p bs size ≡ true)
+
+-- a machine as it is loaded: its next instruction, its stack pointer and all words of its program are inside memory
+pub record IsInside (m : Machine) : Type 0 where
+  pub first : in_register m.core 15 < m.size
+  pub stack : in_register m.core 14 < m.size
+  pub words : m.layout.code + m.layout.constants ≤ m.size

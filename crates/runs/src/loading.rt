@@ -1,8 +1,9 @@
 //! Loading an executable into a lent memory.
 
-ghost use Rattle.std.specs.Prelude.{◌≡◌, length};
+ghost use Rattle.std.specs.Prelude.{◌≡◌, length, IfOk};
+ghost use Rattle.runs.specs.Machines.{machine_of};
 ghost use Rattle.executable.specs.Check.{contents};
-ghost use Rattle.runs.specs.Loading.{loaded, shown, cells_after, fill, memory_fits, LoadsFirstNo};
+ghost use Rattle.runs.specs.Loading.{loaded, shown, cells_after, fill, memory_fits, IsInside, LoadsFirstNo};
 
 use crate::loaded::Machine;
 use crate::refusal::LoadRefusal;
@@ -35,6 +36,7 @@ impl Machine {
     pub fn load(bytes: &[u8], cells: &mut [u32]) -> Result<Machine, LoadRefusal>
         ensures value { shown result ≡ loaded bytes.now (length cells.old) }
         ensures cells { cells.new ≡ cells_after bytes.now cells.old }
+        ensures inside { IfOk result (λ m. IsInside (machine_of m)) }
         ensures first { LoadsFirstNo bytes.now (length cells.old) (shown result) }
     {
         let executable = check(bytes)?;

@@ -2,6 +2,7 @@
 
 ghost use Rattle.std.specs.Prelude.{◌≡◌, IfErr};
 ghost use Rattle.machine.specs.Commands.{load_pair, load_word, store_pair, store_word};
+ghost use Rattle.machine.specs.Cores.{core_of};
 ghost use Rattle.machine.specs.Outcomes.{Stores};
 
 use crate::access::Access;
@@ -22,7 +23,8 @@ impl Processor {
         cells: &[u32],
         operand: Operand,
     ) -> Result<Turn, Cause>
-        ensures { Stores rules.now (load_word operand) word self.old cells.now result self.new cells.now }
+        ensures value { Stores rules.now (load_word operand) word self.old cells.now result self.new cells.now }
+        ensures kept { IfErr result (λ _. core_of self.new ≡ core_of self.old) }
     {
         let cell = self.operand(rules, word, operand)? as usize;
         rules.write(word.first())?;
@@ -39,7 +41,8 @@ impl Processor {
         cells: &[u32],
         operand: Operand,
     ) -> Result<Turn, Cause>
-        ensures { Stores rules.now (load_pair operand) word self.old cells.now result self.new cells.now }
+        ensures value { Stores rules.now (load_pair operand) word self.old cells.now result self.new cells.now }
+        ensures kept { IfErr result (λ _. core_of self.new ≡ core_of self.old) }
     {
         let pair = Pair::at(word.first())?;
         let cell = self.operand(rules, word, operand)? as usize;

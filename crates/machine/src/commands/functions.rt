@@ -36,7 +36,8 @@ impl Processor {
         cells: &mut [u32],
     ) -> Result<Turn, Cause>
         ensures value { Stores rules.now prepare word self.old cells.old result self.new cells.new }
-        ensures kept { IfErr result (λ _. cells.new ≡ cells.old) }
+        ensures kept { IfErr result (λ _. core_of self.new ≡ core_of self.old) }
+        ensures cells { IfErr result (λ _. cells.new ≡ cells.old) }
     {
         let top = self.register(R14);
         rules.push(cells.len(), top as usize)?;
@@ -54,7 +55,8 @@ impl Processor {
         target: u32,
     ) -> Result<Turn, Cause>
         ensures value { (m : Meaning) → perform (rules_of rules.now) (enter (option_map (λ r. r.number) receiver) target (core_of self.old)) cells.old m ≡ outcome result (core_of self.new) cells.new m }
-        ensures kept { IfErr result (λ _. cells.new ≡ cells.old) }
+        ensures kept { IfErr result (λ _. core_of self.new ≡ core_of self.old) }
+        ensures cells { IfErr result (λ _. cells.new ≡ cells.old) }
     {
         let back = self.register(R15);
         let top = self.register(R14);
@@ -80,7 +82,8 @@ impl Processor {
         operand: Operand,
     ) -> Result<Turn, Cause>
         ensures value { Stores rules.now (call operand) word self.old cells.old result self.new cells.new }
-        ensures kept { IfErr result (λ _. cells.new ≡ cells.old) }
+        ensures kept { IfErr result (λ _. core_of self.new ≡ core_of self.old) }
+        ensures cells { IfErr result (λ _. cells.new ≡ cells.old) }
     {
         let target = self.operand(rules, word, operand)?;
         rules.write(word.first())?;
@@ -98,14 +101,16 @@ impl Processor {
         cells: &mut [u32],
     ) -> Result<Turn, Cause>
         ensures value { Stores rules.now call_address word self.old cells.old result self.new cells.new }
-        ensures kept { IfErr result (λ _. cells.new ≡ cells.old) }
+        ensures kept { IfErr result (λ _. core_of self.new ≡ core_of self.old) }
+        ensures cells { IfErr result (λ _. cells.new ≡ cells.old) }
     {
         self.enter(rules, cells, None, word.address().value)
     }
 
     /// Returns from a function: takes the caller's frame, the return address and the stack pointer from the stack.
     pub(crate) fn return_from(&mut self, rules: &Rules<'_>, cells: &[u32]) -> Result<Turn, Cause>
-        ensures { (m : Meaning) → perform (rules_of rules.now) (return_from (core_of self.old)) cells.now m ≡ outcome result (core_of self.new) cells.now m }
+        ensures value { (m : Meaning) → perform (rules_of rules.now) (return_from (core_of self.old)) cells.now m ≡ outcome result (core_of self.new) cells.now m }
+        ensures kept { IfErr result (λ _. core_of self.new ≡ core_of self.old) }
     {
         let frame = self.register(R13).wrapping_add(1);
         rules.cell(cells.len(), Access::Reading, frame as usize)?;

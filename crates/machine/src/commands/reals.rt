@@ -1,7 +1,8 @@
 //! Doubles.
 
-ghost use Rattle.std.specs.Prelude.{◌≡◌};
+ghost use Rattle.std.specs.Prelude.{◌≡◌, IfErr};
 ghost use Rattle.machine.specs.Commands.{calculate, calculation_of, compare_doubles, make_double, make_word};
+ghost use Rattle.machine.specs.Cores.{core_of};
 ghost use Rattle.machine.specs.Outcomes.{Computes};
 
 use crate::cause::Cause;
@@ -39,7 +40,8 @@ impl Processor {
         word: Fetched,
         operand: Operand,
     ) -> Result<Turn, Cause>
-        ensures { Computes rules.now (make_double operand) word self.old result self.new }
+        ensures value { Computes rules.now (make_double operand) word self.old result self.new }
+        ensures kept { IfErr result (λ _. core_of self.new ≡ core_of self.old) }
     {
         let pair = Pair::at(word.first())?;
         let value = self.operand(rules, word, operand)?;
@@ -50,7 +52,8 @@ impl Processor {
 
     /// Makes a word of a double.
     pub(crate) fn make_word(&mut self, rules: &Rules<'_>, word: Fetched) -> Result<Turn, Cause>
-        ensures { Computes rules.now make_word word self.old result self.new }
+        ensures value { Computes rules.now make_word word self.old result self.new }
+        ensures kept { IfErr result (λ _. core_of self.new ≡ core_of self.old) }
     {
         let pair = Pair::at(word.source())?;
         rules.read_pair(pair)?;
@@ -67,7 +70,8 @@ impl Processor {
         word: Fetched,
         how: Calculation,
     ) -> Result<Turn, Cause>
-        ensures { Computes rules.now (calculate how) word self.old result self.new }
+        ensures value { Computes rules.now (calculate how) word self.old result self.new }
+        ensures kept { IfErr result (λ _. core_of self.new ≡ core_of self.old) }
     {
         let first = Pair::at(word.first())?;
         let source = Pair::at(word.source())?;
@@ -84,7 +88,8 @@ impl Processor {
         rules: &Rules<'_>,
         word: Fetched,
     ) -> Result<Turn, Cause>
-        ensures { Computes rules.now compare_doubles word self.old result self.new }
+        ensures value { Computes rules.now compare_doubles word self.old result self.new }
+        ensures kept { IfErr result (λ _. core_of self.new ≡ core_of self.old) }
     {
         let first = Pair::at(word.first())?;
         let source = Pair::at(word.source())?;

@@ -2,6 +2,7 @@
 
 ghost use Rattle.std.specs.Prelude.{◌≡◌, IfErr};
 ghost use Rattle.machine.specs.Commands.{pop_word, push_word};
+ghost use Rattle.machine.specs.Cores.{core_of};
 ghost use Rattle.machine.specs.Outcomes.{Stores};
 
 use crate::access::Access;
@@ -21,7 +22,8 @@ impl Processor {
         cells: &mut [u32],
     ) -> Result<Turn, Cause>
         ensures value { Stores rules.now push_word word self.old cells.old result self.new cells.new }
-        ensures kept { IfErr result (λ _. cells.new ≡ cells.old) }
+        ensures kept { IfErr result (λ _. core_of self.new ≡ core_of self.old) }
+        ensures cells { IfErr result (λ _. cells.new ≡ cells.old) }
     {
         rules.read(word.first())?;
         let top = self.register(R14);
@@ -38,7 +40,8 @@ impl Processor {
         word: Fetched,
         cells: &[u32],
     ) -> Result<Turn, Cause>
-        ensures { Stores rules.now pop_word word self.old cells.now result self.new cells.now }
+        ensures value { Stores rules.now pop_word word self.old cells.now result self.new cells.now }
+        ensures kept { IfErr result (λ _. core_of self.new ≡ core_of self.old) }
     {
         rules.write(word.first())?;
         let top = self.register(R14).wrapping_add(1);

@@ -2,6 +2,7 @@
 
 ghost use Rattle.std.specs.Prelude.{◌≡◌, IfErr};
 ghost use Rattle.machine.specs.Commands.{call_system, exit, get_character, get_number, get_real, put_character, put_number, put_real};
+ghost use Rattle.machine.specs.Cores.{core_of};
 ghost use Rattle.machine.specs.Outcomes.{Computes, Talks};
 
 use crate::cause::Cause;
@@ -31,7 +32,8 @@ impl Processor {
         host: &mut H,
     ) -> Result<Turn, Cause>
         ensures value { Talks rules.now get_number word self.old (H.meaning host.old) result self.new (H.meaning host.new) }
-        ensures kept { IfErr result (λ _. H.meaning host.new ≡ H.meaning host.old) }
+        ensures kept { IfErr result (λ _. core_of self.new ≡ core_of self.old) }
+        ensures host { IfErr result (λ _. H.meaning host.new ≡ H.meaning host.old) }
         ensures lender { H.roots host.new ≡ H.roots host.old }
     {
         rules.write(word.first())?;
@@ -50,7 +52,8 @@ impl Processor {
         host: &mut H,
     ) -> Result<Turn, Cause>
         ensures value { Talks rules.now get_real word self.old (H.meaning host.old) result self.new (H.meaning host.new) }
-        ensures kept { IfErr result (λ _. H.meaning host.new ≡ H.meaning host.old) }
+        ensures kept { IfErr result (λ _. core_of self.new ≡ core_of self.old) }
+        ensures host { IfErr result (λ _. H.meaning host.new ≡ H.meaning host.old) }
         ensures lender { H.roots host.new ≡ H.roots host.old }
     {
         let pair = Pair::at(word.first())?;
@@ -70,7 +73,7 @@ impl Processor {
         host: &mut H,
     ) -> Result<Turn, Cause>
         ensures value { Talks rules.now put_number word self.now (H.meaning host.old) result self.now (H.meaning host.new) }
-        ensures kept { IfErr result (λ _. H.meaning host.new ≡ H.meaning host.old) }
+        ensures host { IfErr result (λ _. H.meaning host.new ≡ H.meaning host.old) }
         ensures lender { H.roots host.new ≡ H.roots host.old }
     {
         rules.read(word.first())?;
@@ -86,7 +89,7 @@ impl Processor {
         host: &mut H,
     ) -> Result<Turn, Cause>
         ensures value { Talks rules.now put_real word self.now (H.meaning host.old) result self.now (H.meaning host.new) }
-        ensures kept { IfErr result (λ _. H.meaning host.new ≡ H.meaning host.old) }
+        ensures host { IfErr result (λ _. H.meaning host.new ≡ H.meaning host.old) }
         ensures lender { H.roots host.new ≡ H.roots host.old }
     {
         let pair = Pair::at(word.first())?;
@@ -103,7 +106,8 @@ impl Processor {
         host: &mut H,
     ) -> Result<Turn, Cause>
         ensures value { Talks rules.now get_character word self.old (H.meaning host.old) result self.new (H.meaning host.new) }
-        ensures kept { IfErr result (λ _. H.meaning host.new ≡ H.meaning host.old) }
+        ensures kept { IfErr result (λ _. core_of self.new ≡ core_of self.old) }
+        ensures host { IfErr result (λ _. H.meaning host.new ≡ H.meaning host.old) }
         ensures lender { H.roots host.new ≡ H.roots host.old }
     {
         rules.write(word.first())?;
@@ -122,7 +126,7 @@ impl Processor {
         host: &mut H,
     ) -> Result<Turn, Cause>
         ensures value { Talks rules.now put_character word self.now (H.meaning host.old) result self.now (H.meaning host.new) }
-        ensures kept { IfErr result (λ _. H.meaning host.new ≡ H.meaning host.old) }
+        ensures host { IfErr result (λ _. H.meaning host.new ≡ H.meaning host.old) }
         ensures lender { H.roots host.new ≡ H.roots host.old }
     {
         rules.read(word.first())?;
@@ -139,7 +143,8 @@ impl Processor {
         host: &mut H,
     ) -> Result<Turn, Cause>
         ensures value { Talks rules.now call_system word self.old (H.meaning host.old) result self.new (H.meaning host.new) }
-        ensures kept { IfErr result (λ _. H.meaning host.new ≡ H.meaning host.old) }
+        ensures kept { IfErr result (λ _. core_of self.new ≡ core_of self.old) }
+        ensures host { IfErr result (λ _. H.meaning host.new ≡ H.meaning host.old) }
         ensures lender { H.roots host.new ≡ H.roots host.old }
     {
         match word.immediate() {

@@ -1,7 +1,8 @@
 //! Whole numbers.
 
-ghost use Rattle.std.specs.Prelude.{◌≡◌};
+ghost use Rattle.std.specs.Prelude.{◌≡◌, IfErr};
 ghost use Rattle.machine.specs.Commands.{combination_of, combine, compare, divide, invert, multiply, set, shift, shift_asked};
+ghost use Rattle.machine.specs.Cores.{core_of};
 ghost use Rattle.machine.specs.Outcomes.{Computes};
 
 use crate::cause::Cause;
@@ -52,7 +53,8 @@ impl Processor {
         how: Combination,
         operand: Operand,
     ) -> Result<Turn, Cause>
-        ensures { Computes rules.now (combine how operand) word self.old result self.new }
+        ensures value { Computes rules.now (combine how operand) word self.old result self.new }
+        ensures kept { IfErr result (λ _. core_of self.new ≡ core_of self.old) }
     {
         let first = word.first();
         let value = self.operand(rules, word, operand)?;
@@ -69,7 +71,8 @@ impl Processor {
         word: Fetched,
         operand: Operand,
     ) -> Result<Turn, Cause>
-        ensures { Computes rules.now (multiply operand) word self.old result self.new }
+        ensures value { Computes rules.now (multiply operand) word self.old result self.new }
+        ensures kept { IfErr result (λ _. core_of self.new ≡ core_of self.old) }
     {
         let pair = Pair::at(word.first())?;
         let value = self.operand(rules, word, operand)?;
@@ -89,7 +92,8 @@ impl Processor {
         word: Fetched,
         operand: Operand,
     ) -> Result<Turn, Cause>
-        ensures { Computes rules.now (divide operand) word self.old result self.new }
+        ensures value { Computes rules.now (divide operand) word self.old result self.new }
+        ensures kept { IfErr result (λ _. core_of self.new ≡ core_of self.old) }
     {
         let pair = Pair::at(word.first())?;
         let divisor = self.operand(rules, word, operand)?;
@@ -102,7 +106,8 @@ impl Processor {
 
     /// Changes every bit of the first register.
     pub(crate) fn invert(&mut self, rules: &Rules<'_>, word: Fetched) -> Result<Turn, Cause>
-        ensures { Computes rules.now invert word self.old result self.new }
+        ensures value { Computes rules.now invert word self.old result self.new }
+        ensures kept { IfErr result (λ _. core_of self.new ≡ core_of self.old) }
     {
         let first = word.first();
         rules.read(first)?;
@@ -119,7 +124,8 @@ impl Processor {
         direction: Direction,
         operand: Operand,
     ) -> Result<Turn, Cause>
-        ensures { Computes rules.now (shift direction operand) word self.old result self.new }
+        ensures value { Computes rules.now (shift direction operand) word self.old result self.new }
+        ensures kept { IfErr result (λ _. core_of self.new ≡ core_of self.old) }
     {
         let first = word.first();
         let value = self.operand(rules, word, operand)?;
@@ -137,7 +143,8 @@ impl Processor {
         word: Fetched,
         operand: Operand,
     ) -> Result<Turn, Cause>
-        ensures { Computes rules.now (compare operand) word self.old result self.new }
+        ensures value { Computes rules.now (compare operand) word self.old result self.new }
+        ensures kept { IfErr result (λ _. core_of self.new ≡ core_of self.old) }
     {
         let value = self.operand(rules, word, operand)?;
         rules.read(word.first())?;
@@ -153,7 +160,8 @@ impl Processor {
         word: Fetched,
         operand: Operand,
     ) -> Result<Turn, Cause>
-        ensures { Computes rules.now (set operand) word self.old result self.new }
+        ensures value { Computes rules.now (set operand) word self.old result self.new }
+        ensures kept { IfErr result (λ _. core_of self.new ≡ core_of self.old) }
     {
         let value = self.operand(rules, word, operand)?;
         rules.write(word.first())?;

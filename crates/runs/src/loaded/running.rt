@@ -4,7 +4,7 @@ ghost use Rattle.std.specs.Prelude.{◌≡◌, length};
 ghost use Rattle.machine.specs.Cores.{core_of};
 ghost use Rattle.machine.specs.Rules.{rules_of};
 ghost use Rattle.machine.specs.Step.{state};
-ghost use Rattle.runs.specs.Laws.{SameUnderLargerBudgets, SameUnderWiderPermits, SpentAtPermitFaults};
+ghost use Rattle.runs.specs.Laws.{NoRunAfterExit, SameUnderLargerBudgets, SameUnderWiderPermits, SpentAtPermitFaults};
 ghost use Rattle.runs.specs.Machines.{machine_of};
 ghost use Rattle.runs.specs.Runs.{ran, run_asked, called, end_of, held, settings_of};
 
@@ -85,6 +85,7 @@ impl Machine {
         ensures value { result ≡ (called (settings_of settings.now) (held (machine_of self.old) cells.old (H.meaning host.old))).answer }
         ensures after { held (machine_of self.new) cells.new (H.meaning host.new) ≡ (called (settings_of settings.now) (held (machine_of self.old) cells.old (H.meaning host.old))).held }
         ensures larger { SameUnderLargerBudgets (settings_of settings.now) (held (machine_of self.old) cells.old (H.meaning host.old)) }
+        ensures exits { NoRunAfterExit (settings_of settings.now) (held (machine_of self.old) cells.old (H.meaning host.old)) }
         ensures spent { SpentAtPermitFaults (settings_of settings.now) (held (machine_of self.old) cells.old (H.meaning host.old)) }
         ensures wider { SameUnderWiderPermits (settings_of settings.now) (held (machine_of self.old) cells.old (H.meaning host.old)) }
         ensures lender { H.roots host.new ≡ H.roots host.old }

@@ -17,7 +17,7 @@ returns-in-Err-clause-value g c = let e = sym (ap (λ x. x.turn) (faulted _ (sta
 pub returns-in-Err-clause-after : goal.returns-in-Err-clause-after
 returns-in-Err-clause-after g c =
     let e = sym (ap (λ x. x.state) (faulted _ (state (core_of c.args.self.now) c.args.cells.now (g.H.Host.meaning c.args.host.now)) _ c.in-Err.ensures.value)) in
-    rw (c.in-Err.ensures.cells, c.in-Err.ensures.host) e
+    rw (c.in-Err.ensures.kept, c.in-Err.ensures.cells, c.in-Err.ensures.host) e
 
 pub returns-in-Ok-clause-turn : goal.returns-in-Ok-clause-turn
 returns-in-Ok-clause-turn g c = steps_in_turn (core_of c.args.self.now) c.args.cells.now

@@ -1,5 +1,6 @@
 use Rattle.runs.specs.Machines.{machine_of}
 use Rattle.runs.specs.Runs.{held, settings_of}
+use Rattle.runs.proofs.Exits.{no_run_after_exit}
 use Rattle.runs.proofs.Faulting.{spent_at_permit_faults}
 use Rattle.runs.proofs.Larger.{same_under_larger}
 use Rattle.runs.proofs.WiderRuns.{same_under_wider}
@@ -13,3 +14,6 @@ returns-clause-wider g c = same_under_wider (settings_of c.args.settings.now) (h
 
 pub returns-clause-spent : goal.returns-clause-spent
 returns-clause-spent g c = spent_at_permit_faults (settings_of c.args.settings.now) (held (machine_of c.args.self.now) c.args.cells.now (g.H.Host.meaning c.args.host.now))
+
+pub returns-clause-exits : goal.returns-clause-exits
+returns-clause-exits g c = no_run_after_exit (settings_of c.args.settings.now) (held (machine_of c.args.self.now) c.args.cells.now (g.H.Host.meaning c.args.host.now))
