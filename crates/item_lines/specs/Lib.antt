@@ -1,0 +1,5 @@
+pub mod Lines
+pub mod Made
+pub mod Reading
+pub mod Tapes
+pub mod Texts
