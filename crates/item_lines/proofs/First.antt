@@ -99,13 +99,13 @@ cut_at text n inside end =
 
 -- a text whose first line is an item's begins with that item's line
 pub an_item : (text : List ℕ) (n : ℕ) (o : Option Item) (x : Item) → n ≡ first_end text → n < length text → o ≡ Some x → Tells (take n text) o
-    → (n + 1 ≡ length (item_line x)) × (text ≡ item_line x ++ drop (n + 1) text)
+    → InRange x × (n + 1 ≡ length (item_line x)) × (text ≡ item_line x ++ drop (n + 1) text)
 an_item text n o x first inside some tells =
-    let told = subst (Tells (take n text)) some tells in
+    let told = (subst (Tells (take n text)) some tells).1 in
     let passes = passes_at_first (λ b. b == 10) text 0 (let within : first_end text < length text = omega (arith, first) in within) in
     let end : get_or text n 0 ≡ 10 = ap (λ k. get_or text k 0) first ∙ eqb-true (get_or text (first_end text) 0) 10 passes in
     let cut = cut_at text n inside end ∙ ap (λ t. t ++ 10 ∷ drop (n + 1) text) told ∙ sym (parted x (drop (n + 1) text)) in
     let size : length (take n text) ≡ n = length-take-le n text (omega arith) in
     let long = length-append (item_text x) (10 ∷ []) in
     let same = ap length told in
-    (omega (arith, size, long, same), cut)
+    ((subst (Tells (take n text)) some tells).0, omega (arith, size, long, same), cut)

@@ -1,7 +1,7 @@
 -- Tapes made of lines.
-use Rattle.std.specs.Prelude.{◌≡◌, ℕ, ◌<◌, List, length, false, Ok, Err, Result, Vec}
+use Rattle.std.specs.Prelude.{◌≡◌, ℕ, ◌<◌, List, length, All, false, Ok, Err, Result, Vec}
 use Rattle.std.specs.Global.{Global}
-use Rattle.host.specs.Tapes.{spoiled}
+use Rattle.host.specs.Tapes.{items, spoiled}
 use Rattle.host.specs.declared.item.Item.{Item}
 use Rattle.item_lines.specs.Lines.{item_lines}
 use Rattle.item_lines.specs.Tapes.{tape_lines}
@@ -32,3 +32,14 @@ Makes text (Ok v) = MadeOf text v.items
 Makes text (Err (Line n)) = BadLine text n
 Makes text (Err TooMany) = TooLong text
 Makes text (Err Memory) = Unit
+
+-- what making a tape of the lines that show a clean tape gives: that tape, or a refusal where it has more items than a host writes; no line is refused
+abbrev pub Again : List ℕ → Result (Vec ℕ Global) MakeError → Type 0
+Again bs (Ok v) = v.items ≡ bs
+Again bs (Err (Line n)) = ⊥
+Again bs (Err TooMany) = 65_536 < length (items bs)
+Again bs (Err Memory) = Unit
+
+-- a clean tape that is shown and made again is the same tape
+abbrev pub MakesAgain : List ℕ → Result (Vec ℕ Global) MakeError → Type 0
+MakesAgain text r = (bs : List ℕ) → All (λ b. b < 256) bs → spoiled bs ≡ false → text ≡ tape_lines bs → Again bs r

@@ -1,7 +1,8 @@
 //! Making a tape of lines.
 
 ghost use Rattle.std.specs.Prelude.{◌≡◌};
-ghost use Rattle.item_lines.specs.Made.{Makes, after_reading};
+ghost use Rattle.item_lines.specs.Made.{Makes, MakesAgain, after_reading};
+ghost use Rattle.item_lines.specs.Numbers.{number_of};
 ghost use Rattle.item_lines.specs.declared.make.MakeError.TheVariants.{TooMany, Memory};
 
 use crate::read::{ReadError, read_items};
@@ -21,6 +22,18 @@ pub enum MakeError {
     TooMany,
     /// There is no memory.
     Memory,
+}
+
+impl MakeError {
+    /// The number by which the refusal is reported, if it has one.
+    pub fn number(self) -> Option<u8>
+        ensures { result ≡ number_of self }
+    {
+        match self {
+            MakeError::TooMany => Some(46),
+            MakeError::Line(_) | MakeError::Memory => None,
+        }
+    }
 }
 
 impl From<ReadError> for MakeError {
@@ -50,9 +63,10 @@ impl From<NoRoom> for MakeError {
     }
 }
 
-/// The tape of the items whose lines a text is.
+/// The tape of the items whose lines a text is. Of the lines that show a tape that ends clean it is that tape.
 pub fn make_tape(heap: Global, text: &[u8]) -> Result<Vec<u8>, MakeError>
-    ensures { Makes text.now result }
+    ensures lines { Makes text.now result }
+    ensures back { MakesAgain text.now result }
 {
     let items = read_items(heap, text)?;
     if items.len() > MOST {

@@ -2,7 +2,7 @@
 
 ghost use Rattle.std.specs.Prelude.{◌≡◌, ◌≤◌, ◌==◌, length, IfOk};
 ghost use Rattle.std.specs.List.{position_or_len};
-ghost use Rattle.item_lines.specs.Texts.{ReadsItems, StandsFirst};
+ghost use Rattle.item_lines.specs.Texts.{ReadsBack, ReadsItems, StandsFirst};
 ghost use Rattle.item_lines.specs.declared.read.ReadError.TheVariants.{Memory};
 
 use crate::reading::read_line;
@@ -62,7 +62,8 @@ fn first_item(heap: Global, text: &[u8]) -> Result<Option<Front>, AllocError>
 
 /// The items of a text of lines, or the first line that is no item's.
 pub fn read_items(heap: Global, text: &[u8]) -> Result<Vec<Item>, ReadError>
-    ensures { ReadsItems text.now result }
+    ensures lines { ReadsItems text.now result }
+    ensures back { ReadsBack text.now result }
 {
     let mut items = Vec::new(heap);
     let mut rest = text;

@@ -1,4 +1,5 @@
 pub mod Answered
+pub mod OneLine
 pub mod Prints
 pub mod Room
 pub mod Turns

@@ -7,3 +7,4 @@ pub mod list;
 pub mod printout;
 mod put;
 pub mod refusal;
+pub mod word_text;

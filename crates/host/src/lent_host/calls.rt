@@ -49,6 +49,14 @@ impl<'i, 'o, U: CodeUnit> LentHost<'i, 'o, U> {
         self.written().len()
     }
 
+    /// The units of what waits: the items, and a spoiled end if there is one.
+    pub fn waiting(&self) -> &[U]
+        ensures items { U.code.items result.now ≡ (lent_meaning U.code self.now).waiting }
+        ensures spoiled { U.code.spoiled result.now ≡ (lent_meaning U.code self.now).spoiled }
+    {
+        &self.input[..]
+    }
+
     /// Takes the first item that waits, or refuses.
     fn take(&mut self, kind: Kind) -> Result<Item, Refusal>
         ensures value { result ≡ got kind (lent_meaning U.code self.old) }

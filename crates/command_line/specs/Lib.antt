@@ -1,0 +1,9 @@
+pub mod Commands
+pub mod Given
+pub mod Help
+pub mod Names
+pub mod Reading
+pub mod Results
+pub mod Texts
+pub mod Topics
+pub mod Words

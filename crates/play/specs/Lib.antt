@@ -1,0 +1,4 @@
+pub mod Numbers
+pub mod Parting
+pub mod Traced
+pub mod Whole

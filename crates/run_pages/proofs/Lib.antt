@@ -1,0 +1,3 @@
+pub mod Joined
+pub mod Registers
+pub mod Turns

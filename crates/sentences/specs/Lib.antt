@@ -1,0 +1,3 @@
+pub mod Pages
+pub mod Questions
+pub mod Rows

@@ -1,0 +1,5 @@
+pub mod Assembling
+pub mod Checking
+pub mod Difference
+pub mod Listing
+pub mod Sameness
