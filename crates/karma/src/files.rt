@@ -10,6 +10,14 @@ pub(crate) fn read(rt: &HostRuntime, name: &str) -> anyhow::Result<Vec<u8>> {
     fs::read(rt, name).context(name)
 }
 
+/// The bytes of a file that may be named; none where it is not.
+pub(crate) fn read_if_named(rt: &HostRuntime, name: Option<&str>) -> anyhow::Result<Vec<u8>> {
+    match name {
+        Some(name) => read(rt, name),
+        None => Ok(Vec::new(rt.alloc())),
+    }
+}
+
 /// Writes bytes to a new file and brings them to the disk.
 fn write_new(rt: &HostRuntime, name: &str, bytes: &[u8]) -> anyhow::Result<()> {
     let mut file = File::create(rt, name)?;

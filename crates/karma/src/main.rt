@@ -2,33 +2,31 @@
 
 #![tactic(auto)]
 
-mod comparing;
 mod files;
-mod helping;
 mod records;
-mod refusals;
 mod running;
-mod tapes;
 mod texts;
 mod watching;
 
-use anyhow::anyhow;
 use command_line::command::{Command, read_command};
 use command_line::misuse::misuse_text;
+use files::print;
+use reply::reply::Reply;
 use std::env;
 use std::process::ExitCode;
+use text_replies::helping::help;
 
-/// Does what a command asks, and answers whether all of it was done and agrees.
-fn obey(rt: &HostRuntime, command: Command<'_>) -> anyhow::Result<bool> {
+/// Does what a command asks.
+fn obey(rt: &HostRuntime, command: Command<'_>) -> anyhow::Result<Reply> {
     match command {
-        Command::Help { about } => helping::help(rt, about),
+        Command::Help { about } => Ok(help(rt.alloc(), about)?),
         Command::Assemble { source, executable } => texts::assemble(rt, source, executable),
         Command::List { executable } => texts::list(rt, executable),
         Command::Check {
             executable,
             listing,
-        } => texts::check_files(rt, executable, listing),
-        Command::Same { first, second } => texts::compare_files(rt, first, second),
+        } => texts::check(rt, executable, listing),
+        Command::Same { first, second } => texts::compare(rt, first, second),
         Command::Run {
             executable,
             options,
@@ -38,17 +36,24 @@ fn obey(rt: &HostRuntime, command: Command<'_>) -> anyhow::Result<bool> {
             first,
             second,
             options,
-        } => comparing::compare_permits(rt, executable, first, second, &options),
-        Command::ShowTape { tape } => tapes::show(rt, tape),
-        Command::MakeTape { text, tape } => tapes::make(rt, text, tape),
+        } => running::compare(rt, executable, first, second, &options),
+        Command::ShowTape { tape } => texts::show_tape(rt, tape),
+        Command::MakeTape { text, tape } => texts::make_tape(rt, text, tape),
         Command::File {
             record,
             source,
             readings,
             permit,
-        } => records::file_record(rt, record, source, readings, permit),
-        Command::Replay { record } => records::replay_record(rt, record),
+        } => records::file(rt, record, source, readings, permit),
+        Command::Replay { record } => records::replay(rt, record),
     }
+}
+
+/// Prints what a command replies, and answers whether all of it was done and agrees.
+fn answer(rt: &HostRuntime, command: Command<'_>) -> anyhow::Result<bool> {
+    let reply = obey(rt, command)?;
+    print(rt, reply.page.as_slice())?;
+    Ok(reply.done)
 }
 
 /// Reads the words after the program's name, and does what they ask.
@@ -62,7 +67,7 @@ fn work(rt: &HostRuntime) -> anyhow::Result<bool> {
         views.push(word.as_str())?;
     }
     match read_command(views.as_slice()) {
-        Ok(command) => obey(rt, command),
+        Ok(command) => answer(rt, command),
         Err(misuse) => {
             let text = misuse_text(rt.alloc(), misuse)?;
             eprintln!(rt; "{text}")?;

@@ -1,134 +1,76 @@
-//! The command run.
+//! The commands run and compare.
 
-use crate::files::{print, read, write};
-use crate::refusals::{refuse, refuse_permit};
-use crate::texts::no_memory;
+use crate::files::{read, read_if_named, write};
 use crate::watching::Teller;
 use command_line::options::Options;
-use permit::permit::Permit;
-use permit_text::read::read_permit;
-use play::orders::Orders;
-use play::play::play;
-use play::played::Played;
-use play::refusal::Refusal;
-use play::trace::trace;
-use run_pages::dump::dump_page;
-use run_pages::fault::fault_page;
-use run_pages::run::run_page;
-use run_pages::steps::steps_page;
-use runs::report::Ending;
+use reply::named::Named;
+use reply::reply::Reply;
+use run_replies::asked::{extras_asked, wishes_asked};
+use run_replies::{comparing, running};
 
-/// The most steps, cells and writes, which are also those that a run gets where no option says otherwise.
-const STEPS: u64 = 100_000_000;
-
-const CELLS: u64 = 1_048_576;
-
-const WRITES: u64 = 65_536;
-
-/// The bytes of a file that may be named; none where it is not.
-pub(crate) fn read_if_named(rt: &HostRuntime, name: Option<&str>) -> anyhow::Result<Vec<u8>> {
+/// A file that may be named, with its bytes.
+fn named<'a>(name: Option<&'a str>, bytes: &'a [u8]) -> Option<Named<'a>> {
     match name {
-        Some(name) => read(rt, name),
-        None => Ok(Vec::new(rt.alloc())),
+        Some(name) => Some(Named { name, bytes }),
+        None => None,
     }
 }
 
-/// The permit of a file that may be named, a new one where it is not; none where it is refused, which is told.
-pub(crate) fn permit_in(rt: &HostRuntime, name: Option<&str>) -> anyhow::Result<Option<Permit>> {
-    let Some(name) = name else {
-        return Ok(Some(Permit::new()));
-    };
-    let text = read(rt, name)?;
-    match read_permit(text.as_slice()) {
-        Ok(permit) => Ok(Some(permit)),
-        Err(error) => {
-            refuse_permit(rt, name, error)?;
-            Ok(None)
-        }
-    }
-}
-
-/// What the options ask of a run.
-pub(crate) fn orders_for<'a>(
-    executable: &'a [u8],
-    readings: &'a [u8],
-    permit: &'a Permit,
-    options: &Options<'_>,
-) -> Orders<'a> {
-    Orders {
-        executable,
-        readings,
-        permit,
-        budget: options.budget.unwrap_or(STEPS),
-        cells: options.cells.unwrap_or(CELLS),
-        writes: options.writes.unwrap_or(WRITES),
-    }
-}
-
-/// Tells why a program is not run.
-pub(crate) fn refuse_run(rt: &HostRuntime, refusal: Refusal) -> anyhow::Result<bool> {
-    match refusal.number() {
-        Some(number) => refuse(rt, number),
-        None => Err(no_memory()),
-    }
-}
-
-/// Prints how a run ended, and of a fault what it means and the command at its address.
-pub(crate) fn show_run(rt: &HostRuntime, played: &Played) -> anyhow::Result<()> {
-    let page = run_page(rt.alloc(), played.report, played.taken, played.written)?;
-    print(rt, page.as_bytes())?;
-    if let Ending::Fault(fault) = played.report.ending {
-        let page = fault_page(rt.alloc(), fault, played.word)?;
-        print(rt, page.as_slice())?;
-    }
-    Ok(())
-}
-
-/// Writes and prints what a run gave.
-fn tell(rt: &HostRuntime, options: &Options<'_>, played: &Played) -> anyhow::Result<()> {
-    if let Some(name) = options.results {
-        write(rt, name, played.results.as_slice())?;
-    }
-    show_run(rt, played)?;
-    if options.dump {
-        let page = dump_page(rt.alloc(), &played.machine)?;
-        print(rt, page.as_bytes())?;
-    }
-    Ok(())
-}
-
-/// Prints the first steps of a run that was taken: that is refused for want of memory alone.
-fn show_steps(rt: &HostRuntime, orders: &Orders<'_>, count: u64) -> anyhow::Result<()> {
-    let Ok(steps) = trace(rt.alloc(), orders, count) else {
-        return Err(no_memory());
-    };
-    let page = steps_page(rt.alloc(), steps.as_slice())?;
-    print(rt, page.as_slice())
-}
-
-/// Runs an executable.
+/// Runs an executable, and writes the tape of its results where one is asked for.
 pub(crate) fn run(
     rt: &HostRuntime,
     executable: &str,
     options: &Options<'_>,
-) -> anyhow::Result<bool> {
+) -> anyhow::Result<Reply> {
     let bytes = read(rt, executable)?;
     let readings = read_if_named(rt, options.readings)?;
-    let Some(permit) = permit_in(rt, options.permit)? else {
-        return Ok(false);
-    };
-    let orders = orders_for(bytes.as_slice(), readings.as_slice(), &permit, options);
+    let text = read_if_named(rt, options.permit)?;
+    let permit = named(options.permit, text.as_slice());
     let mut teller = Teller {
         rt,
         readings: readings.as_slice(),
         quiet: options.quiet,
     };
-    match play(rt.alloc(), &orders, &mut teller) {
-        Ok(played) => {
-            tell(rt, options, &played)?;
-            show_steps(rt, &orders, options.trace.unwrap_or(0))?;
-            Ok(true)
-        }
-        Err(refusal) => refuse_run(rt, refusal),
+    let running = running::run(
+        rt.alloc(),
+        &wishes_asked(bytes.as_slice(), readings.as_slice(), options),
+        permit,
+        extras_asked(options),
+        &mut teller,
+    )?;
+    if let (Some(name), Some(results)) = (options.results, &running.results) {
+        write(rt, name, results.as_slice())?;
     }
+    Ok(running.reply)
+}
+
+/// Runs an executable under two permits.
+pub(crate) fn compare(
+    rt: &HostRuntime,
+    executable: &str,
+    first: &str,
+    second: &str,
+    options: &Options<'_>,
+) -> anyhow::Result<Reply> {
+    let bytes = read(rt, executable)?;
+    let readings = read_if_named(rt, options.readings)?;
+    let (text, other) = (read(rt, first)?, read(rt, second)?);
+    let mut teller = Teller {
+        rt,
+        readings: readings.as_slice(),
+        quiet: options.quiet,
+    };
+    Ok(comparing::compare(
+        rt.alloc(),
+        &wishes_asked(bytes.as_slice(), readings.as_slice(), options),
+        Named {
+            name: first,
+            bytes: text.as_slice(),
+        },
+        Named {
+            name: second,
+            bytes: other.as_slice(),
+        },
+        &mut teller,
+    )?)
 }

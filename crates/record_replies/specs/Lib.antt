@@ -1,0 +1,4 @@
+pub mod Filing
+pub mod Listings
+pub mod Replaying
+pub mod Reruns

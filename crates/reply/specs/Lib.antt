@@ -1,0 +1,3 @@
+pub mod Permits
+pub mod Replies
+pub mod Runs

@@ -1,0 +1,2 @@
+pub mod Refused
+pub mod Told

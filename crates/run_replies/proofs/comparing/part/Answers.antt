@@ -1,0 +1,7 @@
+use Rattle.play.specs.Whole.{orders_of, shown}
+use Rattle.run_replies.proofs.Told.{parts_told}
+use Rattle.run_replies.proofs.comparing.part.Goals as goal
+
+pub returns-in-Ok-clause-told : goal.returns-in-Ok-clause-told
+returns-in-Ok-clause-told c =
+    parts_told (orders_of c.args.orders.now) c.args.orders.now.permit.now c.args.second.now (shown c.args.played.now) c.in-Ok.parting c.parting_reply.result c.in-Ok.ensures.parts c.parting_reply.ensures

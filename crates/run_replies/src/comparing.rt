@@ -1,0 +1,112 @@
+//! The reply of the command compare.
+
+ghost use Rattle.std.specs.Prelude.{◌≡◌, IfOk, Ok, true};
+ghost use Rattle.permit.specs.Open.{AsOpen};
+ghost use Rattle.permit.specs.Rights.{rights_of};
+ghost use Rattle.play.specs.Whole.{orders_of, shown as outcome_of};
+ghost use Rattle.reply.specs.Replies.{shown};
+ghost use Rattle.run_replies.specs.Comparing.{IsDoneWhereOpen, IsDoneWhereRun, PartsTold, ReadTold, RunTold};
+ghost use Rattle.run_replies.specs.Permits.{permit_of, shown_permit};
+ghost use Rattle.run_replies.specs.Wishes.{wishes_of};
+
+use crate::parting::parting_reply;
+use crate::permits::permit_of;
+use crate::wishes::Wishes;
+use permit::permit::Permit;
+use play::comparing::compare_permits;
+use play::orders::Orders;
+use play::play::play;
+use play::played::Played;
+use play::watch::Watch;
+use reply::named::Named;
+use reply::reply::Reply;
+use reply::run::refuse_run;
+use std::alloc::{AllocError, Global};
+
+/// The reply on an executable that was run under its permit: it is run under both permits, which is refused for want of memory
+/// alone.
+fn part(
+    heap: Global,
+    orders: &Orders<'_>,
+    second: &Permit,
+    played: &Played,
+) -> Result<Reply, AllocError>
+    ensures told { IfOk result (λ r. PartsTold (orders_of orders.now) orders.now.permit.now second.now (outcome_of played.now) (shown r)) }
+    ensures law { AsOpen (rights_of orders.now.permit.now) (rights_of second.now) → IfOk result (λ r. r.done ≡ true) }
+{
+    match compare_permits(heap, orders, second) {
+        Ok(parting) => parting_reply(heap, parting, played),
+        Err(_) => Err(AllocError),
+    }
+}
+
+/// Compares an executable's runs under two permits, if it is run under the first.
+#[tactic(auto, unfolding(crate::specs::Comparing::RunTold, crate::specs::Comparing::IsDoneWhereRun))]
+fn compare_under<W: Watch>(
+    heap: Global,
+    orders: &Orders<'_>,
+    second: &Permit,
+    watch: &mut W,
+) -> Result<Reply, AllocError>
+    ensures told { IfOk result (λ r. RunTold (orders_of orders.now) orders.now.permit.now second.now (shown r)) }
+    ensures law { AsOpen (rights_of orders.now.permit.now) (rights_of second.now) → IfOk result (λ r. IsDoneWhereRun (orders_of orders.now) (shown r)) }
+{
+    match play(heap, orders, watch) {
+        Ok(played) => part(heap, orders, second, &played),
+        Err(refusal) => refuse_run(heap, refusal),
+    }
+}
+
+/// Compares an executable's runs under a permit that was read and a second one, if that was read too.
+#[tactic(auto, unfolding(crate::specs::Comparing::ReadTold, crate::specs::Comparing::IsDoneWhereOpen))]
+fn compare_from<W: Watch>(
+    heap: Global,
+    wishes: &Wishes<'_>,
+    permit: &Permit,
+    second: Result<Permit, Reply>,
+    watch: &mut W,
+) -> Result<Reply, AllocError>
+    ensures told { IfOk result (λ r. ReadTold (wishes_of wishes.now) (Ok (rights_of permit.now)) (shown_permit second) (shown r)) }
+    ensures law { IfOk result (λ r. IsDoneWhereOpen (wishes_of wishes.now) (Ok (rights_of permit.now)) (shown_permit second) (shown r)) }
+{
+    match second {
+        Ok(other) => compare_under(heap, &wishes.orders(permit), &other, watch),
+        Err(reply) => Ok(reply),
+    }
+}
+
+/// Compares an executable's runs under two permits, if both were read.
+#[tactic(auto, unfolding(crate::specs::Comparing::ReadTold, crate::specs::Comparing::IsDoneWhereOpen))]
+fn compare_read<W: Watch>(
+    heap: Global,
+    wishes: &Wishes<'_>,
+    first: Result<Permit, Reply>,
+    second: Result<Permit, Reply>,
+    watch: &mut W,
+) -> Result<Reply, AllocError>
+    ensures told { IfOk result (λ r. ReadTold (wishes_of wishes.now) (shown_permit first) (shown_permit second) (shown r)) }
+    ensures law { IfOk result (λ r. IsDoneWhereOpen (wishes_of wishes.now) (shown_permit first) (shown_permit second) (shown r)) }
+{
+    match first {
+        Ok(permit) => compare_from(heap, wishes, &permit, second, watch),
+        Err(reply) => Ok(reply),
+    }
+}
+
+/// Runs an executable under the permits of two files, and tells whether and where the two part, and what comes of the run under
+/// the first. The watcher is told how far that run is, and changes nothing of it. Where the second permit is at least as open as
+/// the first, the two do not differ.
+pub fn compare<W: Watch>(
+    heap: Global,
+    wishes: &Wishes<'_>,
+    first: Named<'_>,
+    second: Named<'_>,
+    watch: &mut W,
+) -> Result<Reply, AllocError>
+    ensures told { IfOk result (λ r. ReadTold (wishes_of wishes.now) (permit_of first.entry) (permit_of second.entry) (shown r)) }
+    ensures law { IfOk result (λ r. IsDoneWhereOpen (wishes_of wishes.now) (permit_of first.entry) (permit_of second.entry) (shown r)) }
+{
+    let one = permit_of(heap, first)?;
+    let other = permit_of(heap, second)?;
+    compare_read(heap, wishes, one, other, watch)
+}
