@@ -246,8 +246,8 @@ def preamble():
 
 def options_of(words, command):
     """The options of a run or a comparison, or the sentence of a misuse."""
-    takes = {"--readings", "--budget", "--cells", "--writes", "--quiet"}
-    takes |= {"--results", "--permit", "--trace", "--dump"} if command == "run" else {"--first", "--second"}
+    takes = {"--readings", "--results", "--budget", "--cells", "--writes", "--trace", "--dump", "--quiet"}
+    takes |= {"--permit"} if command == "run" else {"--first", "--second"}
     found = {}
     while words:
         word = words.pop(0)
@@ -275,6 +275,14 @@ def run_as_asked(shelf, data, found, permit, budget=None):
     return Run(data, readings, permit, budget, found.get("--cells", CELLS), found.get("--writes", WRITES))
 
 
+def ran(shelf, run, found):
+    """What is told of a run, whose results are kept where that is asked for."""
+    shelf.told += run.told
+    if "--results" in found:
+        shelf.keep(found["--results"], run.machine.written)
+    return run.page() + (run.dump() if "--dump" in found else []) + run.trace(found.get("--trace", 0))
+
+
 def do_run(shelf, executable, *words):
     found = options_of(list(words), "run")
     data = shelf.read(executable)
@@ -283,10 +291,7 @@ def do_run(shelf, executable, *words):
     name = found.get("--permit")
     permit = read_permit(name, shelf.read(name)) if name else PERMIT["Permit"]()
     run = run_as_asked(shelf, data, found, permit)
-    shelf.told += run.told
-    if "--results" in found:
-        shelf.keep(found["--results"], run.machine.written)
-    return run.page() + (run.dump() if "--dump" in found else []) + run.trace(found.get("--trace", 0)), True
+    return ran(shelf, run, found), True
 
 
 def do_compare(shelf, executable, *words):
@@ -295,9 +300,8 @@ def do_compare(shelf, executable, *words):
     texts = [(found[word], shelf.read(found[word])) for word in ("--first", "--second")]
     first, second = [read_permit(*text) for text in texts]
     one = run_as_asked(shelf, data, found, first)
-    shelf.told += one.told
     lines, same = compared(one, lambda budget: run_as_asked(shelf, data, found, second, budget), second.is_as_open_as(first))
-    return lines + one.page(), same
+    return lines + ran(shelf, one, found), same
 
 
 def do_assemble(shelf, source, executable):

@@ -33,8 +33,8 @@ options_of Run =
     option.Word Readings ∷ option.Word Results ∷ option.Word Permit ∷ option.Number Budget ∷ option.Number Cells ∷ option.Number Writes
     ∷ option.Number Trace ∷ option.Switch Dump ∷ option.Switch Quiet ∷ []
 options_of Compare =
-    option.Word First ∷ option.Word Second ∷ option.Word Readings ∷ option.Number Budget ∷ option.Number Cells ∷ option.Number Writes
-    ∷ option.Switch Quiet ∷ []
+    option.Word First ∷ option.Word Second ∷ option.Word Readings ∷ option.Word Results ∷ option.Number Budget ∷ option.Number Cells
+    ∷ option.Number Writes ∷ option.Number Trace ∷ option.Switch Dump ∷ option.Switch Quiet ∷ []
 options_of command = []
 
 -- the option of a command that a word gives

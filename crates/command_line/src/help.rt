@@ -107,17 +107,21 @@ whether and where the two runs part.
   --first PERMIT   the file of the first machine's permit; it must be given
   --second PERMIT  the file of the second's permit; it must be given
   --readings TAPE  the tape that both read; else they have no readings
+  --results TAPE   the tape to write what the first writes to; else it is lost
   --budget N       the most steps; else 100000000, which is also the most
   --cells N        the cells of memory, 1024 to 1048576; else 1048576
   --writes N       the most results; else 65536, which is also the most
-  --quiet          as for `karma run`; a comparison tells nothing of that kind
+  --trace N        print the first N steps of the first machine
+  --dump           print what the first machine holds at the end
+  --quiet          do not tell how far a long run is
 
 `karma help run` tells what N may be and what a permit file has.
 
 It prints `the same throughout`, or after how many steps the first meets a
 permit fault and which, and that the second holds the same there. So it is
 where the second permit is at least as open as the first; where it is not, it
-says that as well, and the two may differ.
+says that as well, and the two may differ. Below `under the first permit:`
+it tells of the first machine's run what `karma run` tells of a run.
 
 Exit status: 0 where the two runs agree, else 1.";
 
@@ -209,7 +213,8 @@ pub fn usage(topic: Topic) -> &'static str
         }
         Topic::Compare => {
             "karma compare EXECUTABLE --first PERMIT --second PERMIT
-    [--readings TAPE] [--budget N] [--cells N] [--writes N] [--quiet]"
+    [--readings TAPE] [--results TAPE] [--budget N] [--cells N] [--writes N]
+    [--trace N] [--dump] [--quiet]"
         }
         Topic::Tape => "karma tape show TAPE\nkarma tape make TEXT TAPE",
         Topic::File => "karma file RECORD SOURCE READINGS PERMIT",

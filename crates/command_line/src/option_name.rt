@@ -53,13 +53,16 @@ const RUN_OPTIONS: [OptionName; 9] = [
 ];
 
 /// The options of `compare`.
-const COMPARE_OPTIONS: [OptionName; 7] = [
+const COMPARE_OPTIONS: [OptionName; 10] = [
     OptionName::Word(WordOption::First),
     OptionName::Word(WordOption::Second),
     OptionName::Word(WordOption::Readings),
+    OptionName::Word(WordOption::Results),
     OptionName::Number(NumberOption::Budget),
     OptionName::Number(NumberOption::Cells),
     OptionName::Number(NumberOption::Writes),
+    OptionName::Number(NumberOption::Trace),
+    OptionName::Switch(Switch::Dump),
     OptionName::Switch(Switch::Quiet),
 ];
 

@@ -1,7 +1,7 @@
 //! Options: what `run` and `compare` may be told beside their operands.
 
-/// What the options of a run or a comparison say. A number above 4,294,967,296 is told as that. `results`, `permit`, `trace` and
-/// `dump` are a run's alone.
+/// What the options of a run or a comparison say. A number above 4,294,967,296 is told as that. `permit` is a run's
+/// alone.
 #[derive(Clone, Copy, PartialEq, Eq)]
 pub struct Options<'a> {
     /// The tape of the readings.

@@ -44,7 +44,7 @@ pub(crate) fn run(
     Ok(running.reply)
 }
 
-/// Runs an executable under two permits.
+/// Runs an executable under two permits, and writes the tape of the results under the first where one is asked for.
 pub(crate) fn compare(
     rt: &HostRuntime,
     executable: &str,
@@ -60,7 +60,7 @@ pub(crate) fn compare(
         readings: readings.as_slice(),
         quiet: options.quiet,
     };
-    Ok(comparing::compare(
+    let running = comparing::compare(
         rt.alloc(),
         &wishes_asked(bytes.as_slice(), readings.as_slice(), options),
         Named {
@@ -71,6 +71,11 @@ pub(crate) fn compare(
             name: second,
             bytes: other.as_slice(),
         },
+        extras_asked(options),
         &mut teller,
-    )?)
+    )?;
+    if let (Some(name), Some(results)) = (options.results, &running.results) {
+        write(rt, name, results.as_slice())?;
+    }
+    Ok(running.reply)
 }

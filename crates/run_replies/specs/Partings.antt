@@ -2,10 +2,12 @@
 use Rattle.std.specs.Prelude.{ℕ, Bool, true, false, List, [], ◌∷◌, ◌++◌, codes, decimal, Some, None, Option}
 use Rattle.machine.specs.Numbers.{number_of}
 use Rattle.machine.specs.declared.fault.Fault.{Fault}
+use Rattle.play.specs.Whole.{Orders}
 use Rattle.play.specs.Whole as play
 use Rattle.play.specs.declared.comparing.Parting.{Parting}
-use Rattle.reply.specs.Replies.{Reply, line}
-use Rattle.reply.specs.Runs.{outcome_page}
+use Rattle.reply.specs.Replies.{line}
+use Rattle.run_replies.specs.Running.{Running, ran_page}
+use Rattle.run_replies.specs.declared.running.Extras.{Extras}
 use Rattle.runs.specs.declared.comparison.Outcome.{Outcome}
 use Rattle.runs.specs.declared.comparison.Outcome.TheVariants.{Same, PermitFault, Different}
 use Rattle.sentences.specs.Pages.{no_line}
@@ -39,14 +41,15 @@ law_line false = line (codes "the second permit is not at least as open as the f
 abbrev pub parting_lines : Parting → List ℕ
 parting_lines p = outcome_lines p p.outcome ++ (law_line p.open ++ line (codes "under the first permit:"))
 
-unfoldable pub parting_page : Parting → play.Outcome → List ℕ
-parting_page p run = parting_lines p ++ outcome_page run
-
 -- whether no answer of the two differs
 abbrev pub is_same : Outcome → Bool
 is_same Same = true
 is_same (PermitFault at n) = true
 is_same (Different at) = false
 
-abbrev pub parting_reply : Parting → play.Outcome → Reply
-parting_reply p run = record { page = parting_page p run; done = is_same p.outcome }
+-- what is told of both, and of the run under the first all that is told of a run; the results are that run's
+unfoldable pub parting_page : Orders → Extras → Parting → play.Outcome → List ℕ
+parting_page o x p run = parting_lines p ++ ran_page o x run
+
+abbrev pub parted : Orders → Extras → Parting → play.Outcome → Running
+parted o x p run = record { reply = record { page = parting_page o x p run; done = is_same p.outcome }; results = Some run.results }

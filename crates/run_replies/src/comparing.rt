@@ -4,13 +4,14 @@ ghost use Rattle.std.specs.Prelude.{◌≡◌, IfOk, Ok, true};
 ghost use Rattle.permit.specs.Open.{AsOpen};
 ghost use Rattle.permit.specs.Rights.{rights_of};
 ghost use Rattle.play.specs.Whole.{orders_of, shown as outcome_of};
-ghost use Rattle.reply.specs.Replies.{shown};
 ghost use Rattle.run_replies.specs.Comparing.{IsDoneWhereOpen, IsDoneWhereRun, PartsTold, ReadTold, RunTold};
 ghost use Rattle.run_replies.specs.Permits.{permit_of, shown_permit};
+ghost use Rattle.run_replies.specs.Running.{shown_running};
 ghost use Rattle.run_replies.specs.Wishes.{wishes_of};
 
-use crate::parting::parting_reply;
+use crate::parting::parted;
 use crate::permits::permit_of;
+use crate::running::{Extras, Running, not_run};
 use crate::wishes::Wishes;
 use permit::permit::Permit;
 use play::comparing::compare_permits;
@@ -28,14 +29,15 @@ use std::alloc::{AllocError, Global};
 fn part(
     heap: Global,
     orders: &Orders<'_>,
+    extras: Extras,
     second: &Permit,
-    played: &Played,
-) -> Result<Reply, AllocError>
-    ensures told { IfOk result (λ r. PartsTold (orders_of orders.now) orders.now.permit.now second.now (outcome_of played.now) (shown r)) }
-    ensures law { AsOpen (rights_of orders.now.permit.now) (rights_of second.now) → IfOk result (λ r. r.done ≡ true) }
+    played: Played,
+) -> Result<Running, AllocError>
+    ensures told { IfOk result (λ r. PartsTold (orders_of orders.now) extras orders.now.permit.now second.now (outcome_of played) (shown_running r)) }
+    ensures law { AsOpen (rights_of orders.now.permit.now) (rights_of second.now) → IfOk result (λ r. r.reply.done ≡ true) }
 {
     match compare_permits(heap, orders, second) {
-        Ok(parting) => parting_reply(heap, parting, played),
+        Ok(parting) => parted(heap, orders, extras, parting, played),
         Err(_) => Err(AllocError),
     }
 }
@@ -45,15 +47,16 @@ fn part(
 fn compare_under<W: Watch>(
     heap: Global,
     orders: &Orders<'_>,
+    extras: Extras,
     second: &Permit,
     watch: &mut W,
-) -> Result<Reply, AllocError>
-    ensures told { IfOk result (λ r. RunTold (orders_of orders.now) orders.now.permit.now second.now (shown r)) }
-    ensures law { AsOpen (rights_of orders.now.permit.now) (rights_of second.now) → IfOk result (λ r. IsDoneWhereRun (orders_of orders.now) (shown r)) }
+) -> Result<Running, AllocError>
+    ensures told { IfOk result (λ r. RunTold (orders_of orders.now) extras orders.now.permit.now second.now (shown_running r)) }
+    ensures law { AsOpen (rights_of orders.now.permit.now) (rights_of second.now) → IfOk result (λ r. IsDoneWhereRun (orders_of orders.now) (shown_running r)) }
 {
     match play(heap, orders, watch) {
-        Ok(played) => part(heap, orders, second, &played),
-        Err(refusal) => refuse_run(heap, refusal),
+        Ok(played) => part(heap, orders, extras, second, played),
+        Err(refusal) => Ok(not_run(refuse_run(heap, refusal)?)),
     }
 }
 
@@ -62,16 +65,17 @@ fn compare_under<W: Watch>(
 fn compare_from<W: Watch>(
     heap: Global,
     wishes: &Wishes<'_>,
+    extras: Extras,
     permit: &Permit,
     second: Result<Permit, Reply>,
     watch: &mut W,
-) -> Result<Reply, AllocError>
-    ensures told { IfOk result (λ r. ReadTold (wishes_of wishes.now) (Ok (rights_of permit.now)) (shown_permit second) (shown r)) }
-    ensures law { IfOk result (λ r. IsDoneWhereOpen (wishes_of wishes.now) (Ok (rights_of permit.now)) (shown_permit second) (shown r)) }
+) -> Result<Running, AllocError>
+    ensures told { IfOk result (λ r. ReadTold (wishes_of wishes.now) extras (Ok (rights_of permit.now)) (shown_permit second) (shown_running r)) }
+    ensures law { IfOk result (λ r. IsDoneWhereOpen (wishes_of wishes.now) (Ok (rights_of permit.now)) (shown_permit second) (shown_running r)) }
 {
     match second {
-        Ok(other) => compare_under(heap, &wishes.orders(permit), &other, watch),
-        Err(reply) => Ok(reply),
+        Ok(other) => compare_under(heap, &wishes.orders(permit), extras, &other, watch),
+        Err(reply) => Ok(not_run(reply)),
     }
 }
 
@@ -80,16 +84,17 @@ fn compare_from<W: Watch>(
 fn compare_read<W: Watch>(
     heap: Global,
     wishes: &Wishes<'_>,
+    extras: Extras,
     first: Result<Permit, Reply>,
     second: Result<Permit, Reply>,
     watch: &mut W,
-) -> Result<Reply, AllocError>
-    ensures told { IfOk result (λ r. ReadTold (wishes_of wishes.now) (shown_permit first) (shown_permit second) (shown r)) }
-    ensures law { IfOk result (λ r. IsDoneWhereOpen (wishes_of wishes.now) (shown_permit first) (shown_permit second) (shown r)) }
+) -> Result<Running, AllocError>
+    ensures told { IfOk result (λ r. ReadTold (wishes_of wishes.now) extras (shown_permit first) (shown_permit second) (shown_running r)) }
+    ensures law { IfOk result (λ r. IsDoneWhereOpen (wishes_of wishes.now) (shown_permit first) (shown_permit second) (shown_running r)) }
 {
     match first {
-        Ok(permit) => compare_from(heap, wishes, &permit, second, watch),
-        Err(reply) => Ok(reply),
+        Ok(permit) => compare_from(heap, wishes, extras, &permit, second, watch),
+        Err(reply) => Ok(not_run(reply)),
     }
 }
 
@@ -101,12 +106,13 @@ pub fn compare<W: Watch>(
     wishes: &Wishes<'_>,
     first: Named<'_>,
     second: Named<'_>,
+    extras: Extras,
     watch: &mut W,
-) -> Result<Reply, AllocError>
-    ensures told { IfOk result (λ r. ReadTold (wishes_of wishes.now) (permit_of first.entry) (permit_of second.entry) (shown r)) }
-    ensures law { IfOk result (λ r. IsDoneWhereOpen (wishes_of wishes.now) (permit_of first.entry) (permit_of second.entry) (shown r)) }
+) -> Result<Running, AllocError>
+    ensures told { IfOk result (λ r. ReadTold (wishes_of wishes.now) extras (permit_of first.entry) (permit_of second.entry) (shown_running r)) }
+    ensures law { IfOk result (λ r. IsDoneWhereOpen (wishes_of wishes.now) (permit_of first.entry) (permit_of second.entry) (shown_running r)) }
 {
     let one = permit_of(heap, first)?;
     let other = permit_of(heap, second)?;
-    compare_read(heap, wishes, one, other, watch)
+    compare_read(heap, wishes, extras, one, other, watch)
 }

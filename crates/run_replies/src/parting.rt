@@ -1,14 +1,15 @@
 //! The reply that tells how an executable runs under two permits.
 
 ghost use Rattle.std.specs.Prelude.{◌≡◌, IfOk, string_bytes};
-ghost use Rattle.play.specs.Whole.{shown};
-ghost use Rattle.reply.specs.Replies.{shown as shown_reply};
-ghost use Rattle.run_replies.specs.Partings.{fault_lines, is_same, law_line, met_lines, outcome_lines, parting_lines, parting_page, parting_reply, second_line};
+ghost use Rattle.play.specs.Whole.{orders_of, shown};
+ghost use Rattle.run_replies.specs.Partings.{fault_lines, is_same, law_line, met_lines, outcome_lines, parting_lines, parted, parting_page, second_line};
+ghost use Rattle.run_replies.specs.Running.{shown_running};
 
+use crate::running::{Extras, Running, ran_page};
 use machine::fault::Fault;
 use play::comparing::Parting;
+use play::orders::Orders;
 use play::played::Played;
-use reply::played::played_page;
 use reply::reply::Reply;
 use runs::comparison::Outcome;
 use sentences::page::no_line;
@@ -86,13 +87,19 @@ fn parting_lines(heap: Global, parting: Parting) -> Result<String, AllocError>
     format!(in heap; "{lines}{law}under the first permit:\n")
 }
 
-/// What comes of the two, and of the run under the first permit.
+/// What comes of the two, and all that is told of the run under the first permit.
 #[tactic(auto, unfolding(crate::specs::Partings::parting_page))]
-fn parting_page(heap: Global, parting: Parting, played: &Played) -> Result<Vec<u8>, AllocError>
-    ensures { IfOk result (λ page. page.items ≡ parting_page parting (shown played.now)) }
+fn parting_page(
+    heap: Global,
+    orders: &Orders<'_>,
+    extras: Extras,
+    parting: Parting,
+    played: &Played,
+) -> Result<Vec<u8>, AllocError>
+    ensures { IfOk result (λ page. page.items ≡ parting_page (orders_of orders.now) extras parting (shown played.now)) }
 {
     let mut page = parting_lines(heap, parting)?.into_bytes();
-    let run = played_page(heap, played)?;
+    let run = ran_page(heap, orders, extras, played)?;
     page.extend_from_slice(run.as_slice())?;
     Ok(page)
 }
@@ -104,16 +111,23 @@ fn is_same(outcome: Outcome) -> bool
     !matches!(outcome, Outcome::Different { .. })
 }
 
-/// The reply that tells what comes of the two, and of the run under the first permit.
-pub(crate) fn parting_reply(
+/// What comes of the two, with the results of the run under the first permit.
+pub(crate) fn parted(
     heap: Global,
+    orders: &Orders<'_>,
+    extras: Extras,
     parting: Parting,
-    played: &Played,
-) -> Result<Reply, AllocError>
-    ensures { IfOk result (λ r. shown_reply r ≡ parting_reply parting (shown played.now)) }
+    played: Played,
+) -> Result<Running, AllocError>
+    ensures { IfOk result (λ r. shown_running r ≡ parted (orders_of orders.now) extras parting (shown played)) }
 {
-    Ok(Reply {
-        page: parting_page(heap, parting, played)?,
+    let page = parting_page(heap, orders, extras, parting, &played)?;
+    let reply = Reply {
+        page,
         done: is_same(parting.outcome),
+    };
+    Ok(Running {
+        reply,
+        results: Some(played.results),
     })
 }

@@ -32,7 +32,8 @@ pub struct Extras {
     pub dump: bool,
 }
 
-/// What the command run prints, and the tape of the results, where the program is run.
+/// What the commands run and compare print, and the tape of the results, where the program is run: of a comparison those under
+/// the first permit.
 #[derive(Drop)]
 pub struct Running {
     pub reply: Reply,
@@ -63,7 +64,7 @@ fn steps_lines(heap: Global, orders: &Orders<'_>, count: u64) -> Result<Vec<u8>,
 
 /// The page of a run: its outcome, what the machine holds, and the first steps.
 #[tactic(auto, unfolding(crate::specs::Running::ran_page))]
-fn ran_page(
+pub(crate) fn ran_page(
     heap: Global,
     orders: &Orders<'_>,
     extras: Extras,
@@ -90,7 +91,7 @@ fn ran(page: Vec<u8>, results: Vec<u8>) -> Running
 }
 
 /// What comes of it where there is no run.
-fn not_run(reply: Reply) -> Running
+pub(crate) fn not_run(reply: Reply) -> Running
     ensures { shown_running result ≡ not_run (shown_reply reply) }
 {
     Running {

@@ -40,10 +40,10 @@ pub(crate) fn run(
     Ok(running.reply)
 }
 
-/// Runs an executable under two permits.
+/// Runs an executable under two permits, and writes the tape of the results under the first where one is asked for.
 pub(crate) fn compare(
     rt: &HostRuntime,
-    shelf: &Shelf,
+    shelf: &mut Shelf,
     executable: &str,
     first: &str,
     second: &str,
@@ -52,7 +52,7 @@ pub(crate) fn compare(
     let bytes = shelf.read(rt, executable)?;
     let readings = shelf.read_if_named(rt, options.readings)?;
     let (text, other) = (shelf.read(rt, first)?, shelf.read(rt, second)?);
-    Ok(comparing::compare(
+    let running = comparing::compare(
         rt.alloc(),
         &wishes_asked(bytes.as_slice(), readings.as_slice(), options),
         Named {
@@ -63,6 +63,11 @@ pub(crate) fn compare(
             name: second,
             bytes: other.as_slice(),
         },
+        extras_asked(options),
         &mut Teller { rt },
-    )?)
+    )?;
+    if let (Some(name), Some(results)) = (options.results, &running.results) {
+        shelf.keep(rt, name, results.as_slice())?;
+    }
+    Ok(running.reply)
 }

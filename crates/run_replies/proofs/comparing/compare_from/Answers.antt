@@ -9,7 +9,7 @@ use Rattle.run_replies.proofs.comparing.compare_from.Goals as goal
 pub returns-in-Ok-clause-told : goal.returns-in-Ok-clause-told
 returns-in-Ok-clause-told g c =
     let read : Ok (rights_of c.in-Ok.other) ≡ shown_permit c.args.second = sym (ap shown_permit c.in-Ok.is) in
-    both_told (wishes_of c.args.wishes.now) (rights_of c.args.permit.now) (orders_of c.orders.result) c.orders.result.permit.now c.in-Ok.other (shown_permit c.args.second) c.compare_under.result c.orders.ensures (ap (λ (o : Orders). o.rights) c.orders.ensures) read c.compare_under.ensures.told
+    both_told (wishes_of c.args.wishes.now) c.args.extras (rights_of c.args.permit.now) (orders_of c.orders.result) c.orders.result.permit.now c.in-Ok.other (shown_permit c.args.second) c.compare_under.result c.orders.ensures (ap (λ (o : Orders). o.rights) c.orders.ensures) read c.compare_under.ensures.told
 
 pub returns-in-Ok-clause-law : goal.returns-in-Ok-clause-law
 returns-in-Ok-clause-law g c =

@@ -1,15 +1,21 @@
-use Rattle.play.specs.Whole.{orders_of, whole_run}
-use Rattle.run_replies.specs.Comparing.{IsDoneWhereRun, RunTold}
-use Rattle.run_replies.proofs.Told.{refusal_told, refusal_lawful}
+use Rattle.std.proofs.Common.{◌≡◌, true, Result, IfOk, sym, ap, subst, ◌∙◌}
+use Rattle.play.specs.Whole.{Outcome, orders_of, whole_run}
+use Rattle.play.specs.declared.refusal.Refusal.{Refusal}
+use Rattle.reply.specs.Replies.{shown}
+use Rattle.run_replies.specs.Comparing.{IsDoneWhereRun, RunTold, TellsBy}
+use Rattle.run_replies.specs.Running.{not_run, shown_running}
+use Rattle.run_replies.proofs.Refused.{is_refused}
 use Rattle.run_replies.proofs.comparing.compare_under.Goals as goal
 
-pub returns-in-Err-clause-told : goal.returns-in-Err-clause-told
+pub returns-in_ok-refuse_run-in-Err-clause-told : goal.returns-in_ok-refuse_run-in-Err-clause-told
 unfolding RunTold
-returns-in-Err-clause-told g c =
+returns-in_ok-refuse_run-in-Err-clause-told g c =
     let o = orders_of c.args.orders.now in
-    refusal_told o c.args.orders.now.permit.now c.args.second.now (whole_run o) c.in-Err.refusal c.refuse_run.result c.in-Err.ensures c.refuse_run.ensures
+    let is = is_refused (whole_run o) c.in-Err.refusal (shown c.in_ok-refuse_run-in-Err.field-0) c.in-Err.ensures c.in_ok-refuse_run-in-Err.ensures in
+    subst (λ (x : Result Outcome Refusal). TellsBy o c.args.extras c.args.orders.now.permit.now c.args.second.now x (shown_running c.not_run.result)) (sym is.run) (c.not_run.ensures ∙ ap not_run is.told)
 
-pub returns-in-Err-clause-law : goal.returns-in-Err-clause-law
+pub returns-in_ok-refuse_run-in-Err-clause-law : goal.returns-in_ok-refuse_run-in-Err-clause-law
 unfolding IsDoneWhereRun
-returns-in-Err-clause-law g c =
-    λ _. refusal_lawful (whole_run (orders_of c.args.orders.now)) c.in-Err.refusal c.refuse_run.result c.in-Err.ensures c.refuse_run.ensures
+returns-in_ok-refuse_run-in-Err-clause-law g c =
+    let is = is_refused (whole_run (orders_of c.args.orders.now)) c.in-Err.refusal (shown c.in_ok-refuse_run-in-Err.field-0) c.in-Err.ensures c.in_ok-refuse_run-in-Err.ensures in
+    λ _. subst (λ (x : Result Outcome Refusal). IfOk x (λ _. (shown_running c.not_run.result).reply.done ≡ true)) (sym is.run) tt
