@@ -72,7 +72,7 @@ def refused(number, line=None):
 
 
 def assembled(text):
-    assembler = ASSEMBLY["Assembler"](text, 65536)
+    assembler = ASSEMBLY["Assembler"](text, 65538)
     try:
         return assembler.run(262656), len(assembler.labels)
     except ASSEMBLY["Refused"] as error:

@@ -4,6 +4,7 @@ use Rattle.std.specs.Option.{option_map}
 use Rattle.std.proofs.lemmas.Bool.{cond-true, cond-false, cond_both}
 use Rattle.executable.specs.Check.{ask}
 use Rattle.lexer.specs.Shown.{Shown}
+use Rattle.assembler.specs.Labels.{name_in}
 use Rattle.assembler.specs.Lines.{Parts, named, said_by, statement_in}
 use Rattle.assembler.specs.Operands.{right_count, right_form, right_range}
 use Rattle.assembler.specs.Questions.{followed_by, is, orderly, stack_in, few_with, after_by, after, or_refused, body_refusal, body_of, right_label, label_room, label_refusal, refusal_in, entries_of, judge_of}
@@ -144,32 +145,32 @@ two_no false b rest q e = e
 -- what a line adds
 module _ (t : List ℕ) (cap : ℕ) (ls : List Label) (pr : Progress) (p : ℕ) where
   -- a line whose questions about its label get a yes
-  by_body_ok : (l : Parts) (pr' : Progress) → refusal_in t cap ls pr l ≡ body_refusal pr l → Ok pr' ≡ body_of pr l → Ok (record { label = entries_of p pr l.label; progress = pr' }) ≡ judge_of t cap ls pr p l
+  by_body_ok : (l : Parts) (pr' : Progress) → refusal_in (name_in t) cap ls pr l ≡ body_refusal pr l → Ok pr' ≡ body_of pr l → Ok (record { label = entries_of p pr l.label; progress = pr' }) ≡ judge_of (name_in t) cap ls pr p l
   by_body_ok l pr' same e =
       let both = or_ok (after pr l) pr' (body_refusal pr l) e in
       ap (λ x. Ok (record { label = entries_of p pr l.label; progress = x })) both.1 ∙ sym (ap (or_refused _) (same ∙ both.0))
 
-  by_body_err : (l : Parts) (q : Question) → refusal_in t cap ls pr l ≡ body_refusal pr l → Err q ≡ body_of pr l → Err q ≡ judge_of t cap ls pr p l
+  by_body_err : (l : Parts) (q : Question) → refusal_in (name_in t) cap ls pr l ≡ body_refusal pr l → Err q ≡ body_of pr l → Err q ≡ judge_of (name_in t) cap ls pr p l
   by_body_err l q same e = sym (ap (or_refused _) (same ∙ or_err (after pr l) (body_refusal pr l) q e))
 
-  pub plain_ok : (next : Option Shown) (ops : List Shown) (pr' : Progress) → Ok pr' ≡ body_of pr (record { label = None; next = next; operands = ops }) → Ok (record { label = None; progress = pr' }) ≡ judge_of t cap ls pr p (record { label = None; next = next; operands = ops })
+  pub plain_ok : (next : Option Shown) (ops : List Shown) (pr' : Progress) → Ok pr' ≡ body_of pr (record { label = None; next = next; operands = ops }) → Ok (record { label = None; progress = pr' }) ≡ judge_of (name_in t) cap ls pr p (record { label = None; next = next; operands = ops })
   plain_ok next ops pr' e = by_body_ok (record { label = None; next = next; operands = ops }) pr' refl e
 
-  pub plain_err : (next : Option Shown) (ops : List Shown) (q : Question) → Err q ≡ body_of pr (record { label = None; next = next; operands = ops }) → Err q ≡ judge_of t cap ls pr p (record { label = None; next = next; operands = ops })
+  pub plain_err : (next : Option Shown) (ops : List Shown) (q : Question) → Err q ≡ body_of pr (record { label = None; next = next; operands = ops }) → Err q ≡ judge_of (name_in t) cap ls pr p (record { label = None; next = next; operands = ops })
   plain_err next ops q e = by_body_err (record { label = None; next = next; operands = ops }) q refl e
 
   module _ (w : List ℕ) (next : Option Shown) (ops : List Shown) where
     abbrev line : Parts
     line = record { label = Some w; next = next; operands = ops }
 
-    past_label : (u : Unit {0}) → Ok u ≡ or_refused tt (label_refusal t cap ls w) → refusal_in t cap ls pr line ≡ body_refusal pr line
-    past_label u e = two_yes (right_label t ls (Some w)) (label_room cap ls (Some w)) (body_refusal pr line) (or_ok tt u (label_refusal t cap ls w) e).0
+    past_label : (u : Unit {0}) → Ok u ≡ or_refused tt (label_refusal (name_in t) cap ls w) → refusal_in (name_in t) cap ls pr line ≡ body_refusal pr line
+    past_label u e = two_yes (right_label (name_in t) ls (Some w)) (label_room cap ls (Some w)) (body_refusal pr line) (or_ok tt u (label_refusal (name_in t) cap ls w) e).0
 
-    pub labelled_no : (q : Question) → Err q ≡ or_refused {X = Unit {0}} tt (label_refusal t cap ls w) → Err q ≡ judge_of t cap ls pr p line
-    labelled_no q e = sym (ap (or_refused _) (two_no (right_label t ls (Some w)) (label_room cap ls (Some w)) (body_refusal pr line) q (or_err {X = Unit {0}} tt (label_refusal t cap ls w) q e)))
+    pub labelled_no : (q : Question) → Err q ≡ or_refused {X = Unit {0}} tt (label_refusal (name_in t) cap ls w) → Err q ≡ judge_of (name_in t) cap ls pr p line
+    labelled_no q e = sym (ap (or_refused _) (two_no (right_label (name_in t) ls (Some w)) (label_room cap ls (Some w)) (body_refusal pr line) q (or_err {X = Unit {0}} tt (label_refusal (name_in t) cap ls w) q e)))
 
-    pub labelled_ok : (u : Unit {0}) (pr' : Progress) → Ok u ≡ or_refused tt (label_refusal t cap ls w) → Ok pr' ≡ body_of pr line → Ok (record { label = entries_of p pr (Some w); progress = pr' }) ≡ judge_of t cap ls pr p line
+    pub labelled_ok : (u : Unit {0}) (pr' : Progress) → Ok u ≡ or_refused tt (label_refusal (name_in t) cap ls w) → Ok pr' ≡ body_of pr line → Ok (record { label = entries_of p pr (Some w); progress = pr' }) ≡ judge_of (name_in t) cap ls pr p line
     labelled_ok u pr' e f = by_body_ok line pr' (past_label u e) f
 
-    pub labelled_err : (u : Unit {0}) (q : Question) → Ok u ≡ or_refused tt (label_refusal t cap ls w) → Err q ≡ body_of pr line → Err q ≡ judge_of t cap ls pr p line
+    pub labelled_err : (u : Unit {0}) (q : Question) → Ok u ≡ or_refused tt (label_refusal (name_in t) cap ls w) → Err q ≡ body_of pr line → Err q ≡ judge_of (name_in t) cap ls pr p line
     labelled_err u q e f = by_body_err line q (past_label u e) f

@@ -1,3 +1,4 @@
+mod Aimed
 mod Counted
 pub mod Counts
 pub mod Emission

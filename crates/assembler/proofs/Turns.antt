@@ -2,10 +2,11 @@
 use Rattle.std.proofs.Common.{◌≡◌, ℕ, ◌+◌, ◌-◌, ◌<◌, ◌≤◌, Bool, true, false, cond, List, [], ◌∷◌, ◌++◌, length, drop, is_some, Some, None, Ok, Err, Option, Result, sym, refl, ap, ◌∙◌, arith}
 use Rattle.std.proofs.lemmas.List.{drop-drop}
 use Rattle.std.proofs.lemmas.Bool.{ltb-true, false≢true}
-use Rattle.lexer.specs.Text.{code_words, blanks}
+use Rattle.lexer.specs.Text.{CodeLine, code_words, blanks}
 use Rattle.bounded.specs.Held.{KeepsRest}
 use Rattle.bounded.specs.declared.list.BoundedList.{BoundedList}
-use Rattle.assembler.proofs.Numbered.{Told, run_in_lines}
+use Rattle.assembler.specs.Labels.{name_in}
+use Rattle.assembler.proofs.Numbered.{run_in_lines}
 use Rattle.assembler.specs.declared.label.Label.{Label}
 use Rattle.assembler.specs.Progress.{Progress, Judged}
 use Rattle.assembler.specs.declared.question.Question.{Question}
@@ -15,19 +16,19 @@ use Rattle.assembler.specs.Assembled.{refused, entered, on_line}
 use Rattle.assembler.proofs.Judges.{or_ok, or_err}
 
 -- a question that got a yes, and those after it
-passes : (a : Bool) (rest : Option Question) (q : Question) → cond a rest (Some q) ≡ None → (a ≡ true) × (rest ≡ None)
+pub passes : (a : Bool) (rest : Option Question) (q : Question) → cond a rest (Some q) ≡ None → (a ≡ true) × (rest ≡ None)
 passes true rest q e = (refl, e)
 passes false rest q e = let z : ◌≡◌ {A = ℕ} 0 1 = cc in absurd (omega arith)
 
-through : (f : Question → Bool) (qs rs : List Question) → first_no f (qs ++ rs) ≡ None → first_no f rs ≡ None
+pub through : (f : Question → Bool) (qs rs : List Question) → first_no f (qs ++ rs) ≡ None → first_no f rs ≡ None
 through f [] rs e = e
 through f (q ∷ qs) rs e = through f qs rs (passes (f q) (first_no f (qs ++ rs)) q e).1
 
 -- what a line with code adds
 abbrev pub of_code : List ℕ → ℕ → List Label → Progress → ℕ → List ℕ → Result Judged Question
-of_code t cap ls pr s code = judge_of t cap ls pr (s + blanks code) (parts_of (code_words code))
+of_code t cap ls pr s code = judge_of (name_in t) cap ls pr (s + blanks code) (parts_of (code_words code))
 
-module _ (t : List ℕ) (cap : ℕ) (ls : List Label) (pr : Progress) (l : Parts) (ok : refusal_in t cap ls pr l ≡ None) where
+module _ (t : List ℕ) (cap : ℕ) (ls : List Label) (pr : Progress) (l : Parts) (ok : refusal_in (name_in t) cap ls pr l ≡ None) where
   roomy : label_room cap ls l.label ≡ true
   roomy = (passes _ _ _ (passes _ _ _ ok).1).0
 
@@ -38,7 +39,7 @@ short cap ls p pr (Some w) r e = ltb-true (length ls) cap r
 pub finds_room : (t : List ℕ) (cap : ℕ) (ls : List Label) (pr : Progress) (s : ℕ) (code : List ℕ) (j : Judged) → Ok j ≡ of_code t cap ls pr s code → is_some j.label ≡ true → length ls < cap
 finds_room t cap ls pr s code j e some =
     let l = parts_of (code_words code) in
-    let both = or_ok (judged_of (s + blanks code) pr l) j (refusal_in t cap ls pr l) e in
+    let both = or_ok (judged_of (s + blanks code) pr l) j (refusal_in (name_in t) cap ls pr l) e in
     short cap ls (s + blanks code) pr l.label (roomy t cap ls pr l both.0) (sym (ap (λ x. is_some x.label) both.1) ∙ some)
 
 entered_is : (p : ℕ) (ls : List Label) (pr : Progress) (w : Option (List ℕ)) → labels_after p ls pr w ≡ entered ls (entries_of p pr w)
@@ -46,19 +47,19 @@ entered_is p ls pr None = refl
 entered_is p ls pr (Some w) = refl
 
 -- a line that passes, and one that is refused
-module _ (t : List ℕ) (cap : ℕ) (ls : List Label) (pr : Progress) (l : Told) (rest : List Told) where
-  pub run_ok : (j : Judged) → Ok j ≡ of_code t cap ls pr l.1 l.2 → run_in_lines t cap ls pr (l ∷ rest) ≡ run_in_lines t cap (entered ls j.label) j.progress rest
+module _ (t : List ℕ) (cap : ℕ) (ls : List Label) (pr : Progress) (l : CodeLine) (rest : List CodeLine) where
+  pub run_ok : (j : Judged) → Ok j ≡ of_code t cap ls pr l.place l.code → run_in_lines t cap ls pr (l ∷ rest) ≡ run_in_lines t cap (entered ls j.label) j.progress rest
   run_ok j ok =
-      let line = parts_of (code_words l.2) in
-      let both = or_ok (judged_of (l.1 + blanks l.2) pr line) j (refusal_in t cap ls pr line) ok in
-      ap (λ o. on_line l.0 ls o (run_in_lines t cap (labels_after (l.1 + blanks l.2) ls pr line.label) (after pr line) rest)) both.0
-      ∙ ap (λ x. run_in_lines t cap x (after pr line) rest) (entered_is (l.1 + blanks l.2) ls pr line.label)
+      let line = parts_of (code_words l.code) in
+      let both = or_ok (judged_of (l.place + blanks l.code) pr line) j (refusal_in (name_in t) cap ls pr line) ok in
+      ap (λ o. on_line l.number ls o (run_in_lines t cap (labels_after (l.place + blanks l.code) ls pr line.label) (after pr line) rest)) both.0
+      ∙ ap (λ x. run_in_lines t cap x (after pr line) rest) (entered_is (l.place + blanks l.code) ls pr line.label)
       ∙ sym (ap (λ x. run_in_lines t cap (entered ls x.label) x.progress rest) both.1)
 
-  pub run_err : (q : Question) → Err q ≡ of_code t cap ls pr l.1 l.2 → run_in_lines t cap ls pr (l ∷ rest) ≡ refused q l.0 ls
+  pub run_err : (q : Question) → Err q ≡ of_code t cap ls pr l.place l.code → run_in_lines t cap ls pr (l ∷ rest) ≡ refused q l.number ls
   run_err q bad =
-      let line = parts_of (code_words l.2) in
-      ap (λ o. on_line l.0 ls o (run_in_lines t cap (labels_after (l.1 + blanks l.2) ls pr line.label) (after pr line) rest)) (or_err (judged_of (l.1 + blanks l.2) pr line) (refusal_in t cap ls pr line) q bad)
+      let line = parts_of (code_words l.code) in
+      ap (λ o. on_line l.number ls o (run_in_lines t cap (labels_after (l.place + blanks l.code) ls pr line.label) (after pr line) rest)) (or_err (judged_of (l.place + blanks l.code) pr line) (refusal_in (name_in t) cap ls pr line) q bad)
 
 -- lists that agree from one place on agree from a later one on
 pub beyond : {X : Type 0} (m n : ℕ) (xs ys : List X) → m ≤ n → drop m xs ≡ drop m ys → drop n xs ≡ drop n ys

@@ -1,10 +1,11 @@
 -- What a text assembles to.
 use Rattle.std.specs.Prelude.{ℕ, ◌+◌, ◌*◌, Bool, false, cond, ◌&&◌, ◌||◌, List, [], ◌∷◌, ◌++◌, length, drop, Some, None, Ok, Err, Option, Result, ◌==◌, nat_le}
 use Rattle.std.specs.List.{list_all}
-use Rattle.lexer.specs.Text.{lines_of, words_of, before, blanks}
+use Rattle.lexer.specs.Text.{lines_of, words_of, code_of, blanks}
+use Rattle.assembler.specs.Labels.{Names, name_in}
 use Rattle.assembler.specs.Emit.{words_from, lost_from, start_from, executable_of}
 use Rattle.assembler.specs.Lines.{parts_of}
-use Rattle.assembler.specs.Questions.{refusal_in, labels_after, after}
+use Rattle.assembler.specs.Questions.{refusal_in, labels_after, after, refusal_at}
 use Rattle.assembler.specs.declared.label.Label.{Label}
 use Rattle.assembler.specs.Progress.{Progress, progress_of}
 use Rattle.assembler.specs.declared.progress.Progress as rust
@@ -20,7 +21,7 @@ text_byte b = b == 9 || (b == 10 || (nat_le 32 b && nat_le b 126))
 abbrev pub all_text_bytes : List ℕ → Bool
 all_text_bytes = list_all text_byte
 
--- 1: is the text at most 2,097,152 bytes long, and may each of them stand in it?
+-- 1: is the text no longer than 2,097,152 bytes, and may each of them stand in it?
 abbrev pub right_text : List ℕ → Bool
 right_text t = nat_le (length t) 2097152 && all_text_bytes t
 
@@ -49,11 +50,11 @@ on_line n ls (Some q) next = refused q n ls
 on_line n ls None next = next
 
 -- the lines from number n and place p on
-abbrev pub run_from : List ℕ → ℕ → List Label → Progress → ℕ → ℕ → List (List ℕ) → Outcome
-run_from t cap ls pr n p [] = passed ls pr
-run_from t cap ls pr n p (l ∷ rest) =
+abbrev pub run_from : Names → ℕ → List Label → Progress → ℕ → ℕ → List (List ℕ) → Outcome
+run_from names cap ls pr n p [] = passed ls pr
+run_from names cap ls pr n p (l ∷ rest) =
     let parts = parts_of (words_of l) in
-    on_line n ls (refusal_in t cap ls pr parts) (run_from t cap (labels_after (p + blanks (before 35 l)) ls pr parts.label) (after pr parts) (n + 1) (p + length l + 1) rest)
+    on_line n ls (refusal_in names cap ls pr parts) (run_from names cap (labels_after (p + blanks (code_of l)) ls pr parts.label) (after pr parts) (n + 1) (p + length l + 1) rest)
 
 -- how assembling ends: with the executable, or a question and a line; and with the labels after it
 pub data Assembled : Type 0 where
@@ -66,7 +67,7 @@ room_for pr room = nat_le (512 + 4 * (pr.code + pr.pool)) room
 
 -- the executable of lines that passed: the sizes that were counted, the address after `end`, the stack pointer, the words in the order of the lines
 abbrev pub executable_in : List ℕ → List Label → Progress → List ℕ
-executable_in t ls pr = executable_of pr.code pr.pool (start_from t ls (lines_of t)) pr.stack (words_from t ls (lines_of t))
+executable_in t ls pr = executable_of pr.code pr.pool (start_from (name_in t) ls (lines_of t)) pr.stack (words_from (name_in t) ls (lines_of t))
 
 -- 12 is asked before 13; its line is that of the first use
 abbrev pub lastly : List ℕ → ℕ → List Label → Progress → Option ℕ → Assembled
@@ -76,16 +77,16 @@ lastly t room ls pr None = cond (room_for pr room) (good (executable_in t ls pr)
 -- 11 comes after the last line, before 12 and 13
 abbrev pub after_lines : List ℕ → ℕ → Outcome → Assembled
 after_lines t room (refused q n ls) = bad q n ls
-after_lines t room (passed ls pr) = cond pr.ended (lastly t room ls pr (lost_from t ls 1 (lines_of t))) (bad question.End 0 ls)
+after_lines t room (passed ls pr) = cond pr.ended (lastly t room ls pr (lost_from (name_in t) ls 1 (lines_of t))) (bad question.End 0 ls)
 
 -- a text, with so many label entries and so much output
 abbrev pub assembled : List ℕ → ℕ → ℕ → Assembled
-assembled t cap room = cond (right_text t) (after_lines t room (run_from t cap [] fresh 1 0 (lines_of t))) (bad question.Text 0 [])
+assembled t cap room = cond (right_text t) (after_lines t room (run_from (name_in t) cap [] fresh 1 0 (lines_of t))) (bad question.Text 0 [])
 
 -- what the call answers: the executable's length, or the question and its line
 abbrev pub answer_of : Assembled → Result ℕ Refusal
 answer_of (good bytes ls) = Ok (length bytes)
-answer_of (bad q n ls) = Err (record { question = q; origin = record { line = n } })
+answer_of (bad q n ls) = Err (refusal_at q n)
 
 -- the label list afterwards
 abbrev pub labels_of : Assembled → List Label

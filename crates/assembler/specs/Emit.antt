@@ -4,7 +4,7 @@ use Rattle.std.specs.List.{flat_map}
 use Rattle.std.specs.Option.{unwrap_or}
 use Rattle.executable.specs.Questions.{mark}
 use Rattle.lexer.specs.Text.{words_of}
-use Rattle.assembler.specs.Labels.{address_in}
+use Rattle.assembler.specs.Labels.{address_in, Names}
 use Rattle.assembler.specs.Lines.{parts_of, statement_in}
 use Rattle.assembler.specs.Statements.{Meant, code, labelled, constant, text, stack, end, end_at}
 use Rattle.assembler.specs.declared.label.Label.{Label}
@@ -14,8 +14,8 @@ abbrev pub line_says : List ℕ → Option Meant
 line_says line = statement_in (parts_of (words_of line))
 
 -- the address of a label in use; question 12 asks that there is one
-abbrev pub address_of : List ℕ → List Label → List ℕ → ℕ
-address_of t ls w = unwrap_or (address_in t w ls) 0
+abbrev pub address_of : Names → List Label → List ℕ → ℕ
+address_of names ls w = unwrap_or (address_in names w ls) 0
 
 -- the constants of a string: its characters, and a 0
 abbrev pub string_constants : Option (List ℕ) → List ℕ
@@ -23,20 +23,20 @@ string_constants None = []
 string_constants (Some cs) = cs ++ 0 ∷ []
 
 -- the words that a statement puts
-abbrev pub put_by : List ℕ → List Label → Option Meant → List ℕ
-put_by t ls None = []
-put_by t ls (Some (code w)) = w ∷ []
-put_by t ls (Some (labelled w l)) = (w + address_of t ls l) ∷ []
-put_by t ls (Some (constant n)) = n ∷ []
-put_by t ls (Some (text cs)) = string_constants cs
-put_by t ls (Some (stack n)) = []
-put_by t ls (Some (end n)) = []
-put_by t ls (Some (end_at l)) = []
+abbrev pub put_by : Names → List Label → Option Meant → List ℕ
+put_by names ls None = []
+put_by names ls (Some (code w)) = w ∷ []
+put_by names ls (Some (labelled w l)) = (w + address_of names ls l) ∷ []
+put_by names ls (Some (constant n)) = n ∷ []
+put_by names ls (Some (text cs)) = string_constants cs
+put_by names ls (Some (stack n)) = []
+put_by names ls (Some (end n)) = []
+put_by names ls (Some (end_at l)) = []
 
 -- the words of all lines, in their order
-abbrev pub words_from : List ℕ → List Label → List (List ℕ) → List ℕ
-words_from t ls [] = []
-words_from t ls (l ∷ lines) = put_by t ls (line_says l) ++ words_from t ls lines
+abbrev pub words_from : Names → List Label → List (List ℕ) → List ℕ
+words_from names ls [] = []
+words_from names ls (l ∷ lines) = put_by names ls (line_says l) ++ words_from names ls lines
 
 -- the label that a statement uses
 abbrev pub uses : Option Meant → Option (List ℕ)
@@ -50,30 +50,30 @@ uses (Some (end n)) = None
 uses (Some (end_at l)) = Some l
 
 -- whether a label is used that is not defined
-abbrev pub is_lost : List ℕ → List Label → Option (List ℕ) → Bool
-is_lost t ls None = false
-is_lost t ls (Some w) = not (is_some (address_in t w ls))
+abbrev pub is_lost : Names → List Label → Option (List ℕ) → Bool
+is_lost names ls None = false
+is_lost names ls (Some w) = not (is_some (address_in names w ls))
 
 -- the line of the first such use, counted from n
-abbrev pub lost_from : List ℕ → List Label → ℕ → List (List ℕ) → Option ℕ
-lost_from t ls n [] = None
-lost_from t ls n (l ∷ lines) = cond (is_lost t ls (uses (line_says l))) (Some n) (lost_from t ls (n + 1) lines)
+abbrev pub lost_from : Names → List Label → ℕ → List (List ℕ) → Option ℕ
+lost_from names ls n [] = None
+lost_from names ls n (l ∷ lines) = cond (is_lost names ls (uses (line_says l))) (Some n) (lost_from names ls (n + 1) lines)
 
 -- the first instruction: what `end` says
-abbrev pub start_by : List ℕ → List Label → Option Meant → ℕ → ℕ
-start_by t ls None d = d
-start_by t ls (Some (code w)) d = d
-start_by t ls (Some (labelled w l)) d = d
-start_by t ls (Some (constant n)) d = d
-start_by t ls (Some (text cs)) d = d
-start_by t ls (Some (stack n)) d = d
-start_by t ls (Some (end n)) d = n
-start_by t ls (Some (end_at l)) d = address_of t ls l
+abbrev pub start_by : Names → List Label → Option Meant → ℕ → ℕ
+start_by names ls None d = d
+start_by names ls (Some (code w)) d = d
+start_by names ls (Some (labelled w l)) d = d
+start_by names ls (Some (constant n)) d = d
+start_by names ls (Some (text cs)) d = d
+start_by names ls (Some (stack n)) d = d
+start_by names ls (Some (end n)) d = n
+start_by names ls (Some (end_at l)) d = address_of names ls l
 
 -- the first instruction of a text is what its first `end` says
-abbrev pub start_from : List ℕ → List Label → List (List ℕ) → ℕ
-start_from t ls [] = 0
-start_from t ls (l ∷ lines) = start_by t ls (line_says l) (start_from t ls lines)
+abbrev pub start_from : Names → List Label → List (List ℕ) → ℕ
+start_from names ls [] = 0
+start_from names ls (l ∷ lines) = start_by names ls (line_says l) (start_from names ls lines)
 
 -- a number as four bytes, the least first
 abbrev pub four_bytes : ℕ → List ℕ

@@ -1,3 +1,4 @@
+pub mod Addresses
 pub mod Assembled
 pub mod Characters
 pub mod Emit

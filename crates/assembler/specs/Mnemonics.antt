@@ -25,7 +25,7 @@ is_directive Text = false
 is_directive Stack = true
 is_directive End = true
 
--- commands and `word` stand among the code
+-- whether a name gives code words: that of a command, or `word`
 abbrev pub is_code : Mnemonic → Bool
 is_code (Command o) = true
 is_code Word = true
@@ -34,7 +34,7 @@ is_code Text = false
 is_code Stack = false
 is_code End = false
 
--- `uint32` and `string` stand after all code
+-- whether a name gives constant words: `uint32` or `string`
 abbrev pub is_constant : Mnemonic → Bool
 is_constant (Command o) = false
 is_constant Word = false

@@ -12,7 +12,7 @@ counted s = (s.code, s.constants)
 
 -- what the lines so far leave behind, besides their labels
 pub record Progress : Type 0 where
-  -- a label waits for its command or constant
+  -- a label waits: no command or constant has come after it
   pub waiting : Bool
   -- there was a label, command or constant
   pub begun : Bool

@@ -1,7 +1,7 @@
 -- The questions that each line is asked, and what a line does to the progress and the labels.
 use Rattle.std.specs.Prelude.{ℕ, ◌+◌, Bool, true, false, cond, not, ◌&&◌, ◌||◌, List, [], ◌∷◌, ◌++◌, length, is_some, Some, None, Ok, Err, Option, Result, nat_le, nat_lt}
 use Rattle.lexer.specs.Shown.{Shown}
-use Rattle.assembler.specs.Labels.{usable, address_in}
+use Rattle.assembler.specs.Labels.{usable, address_in, place_at, Names, name_in}
 use Rattle.assembler.specs.Lines.{Parts, named, statement_in}
 use Rattle.assembler.specs.Mnemonics.{is_directive, is_code, is_constant, is_stack}
 use Rattle.assembler.specs.Operands.{right_count, right_form, right_range}
@@ -12,8 +12,10 @@ use Rattle.assembler.specs.declared.label.Label.{Label}
 use Rattle.assembler.specs.declared.mnemonic.Mnemonic.{Mnemonic}
 use Rattle.assembler.specs.declared.question.Question.{Question}
 use Rattle.assembler.specs.declared.question.Question.TheVariants as question
+use Rattle.assembler.specs.declared.question.Origin.{Origin}
+use Rattle.assembler.specs.declared.question.Refusal.{Refusal}
 
--- the number of each question
+-- the number by which a refusal is told
 abbrev pub number_of : Question → ℕ
 number_of question.Text = 1
 number_of question.Label = 2
@@ -28,6 +30,30 @@ number_of question.Words = 10
 number_of question.End = 11
 number_of question.Defined = 12
 number_of question.Output = 13
+
+-- the place of each question in the order in which they are asked, counted from 0
+abbrev pub rank_of : Question → ℕ
+rank_of question.Text = 0
+rank_of question.Label = 1
+rank_of question.LabelRoom = 2
+rank_of question.Waiting = 3
+rank_of question.Name = 4
+rank_of question.Order = 5
+rank_of question.Count = 6
+rank_of question.Form = 7
+rank_of question.Range = 8
+rank_of question.Words = 9
+rank_of question.End = 10
+rank_of question.Defined = 11
+rank_of question.Output = 12
+
+-- where a text is refused: on line n, or on no line where n is 0
+abbrev pub origin_at : ℕ → Origin
+origin_at n = record { line = n }
+
+-- the refusal by a question and a line
+abbrev pub refusal_at : Question → ℕ → Refusal
+refusal_at q n = record { question = q; origin = origin_at n }
 
 -- what a test says of a mnemonic, if there is one
 abbrev pub is : (Mnemonic → Bool) → Option Mnemonic → Bool
@@ -45,7 +71,7 @@ code_words (Some (said.stack n)) = 0
 code_words (Some (said.end n)) = 0
 code_words (Some (said.end_at l)) = 0
 
--- a string has a word for each character, and a 0
+-- a string has as many words as characters, and one more, which is 0
 abbrev pub string_words : Option (List ℕ) → ℕ
 string_words None = 0
 string_words (Some cs) = length cs + 1
@@ -62,9 +88,9 @@ data_words (Some (said.end n)) = 0
 data_words (Some (said.end_at l)) = 0
 
 -- 2: may the label have its name, which no earlier line gave?
-abbrev pub right_label : List ℕ → List Label → Option (List ℕ) → Bool
-right_label t ls None = true
-right_label t ls (Some w) = usable w && not (is_some (address_in t w ls))
+abbrev pub right_label : Names → List Label → Option (List ℕ) → Bool
+right_label names ls None = true
+right_label names ls (Some w) = usable w && not (is_some (address_in names w ls))
 
 -- 3: is the label list not yet full?
 abbrev pub label_room : ℕ → List Label → Option (List ℕ) → Bool
@@ -109,20 +135,20 @@ abbrev pub few_words : Progress → Parts → Bool
 few_words pr l = few_with pr (statement_in l)
 
 -- the answer of a line to each question
-abbrev pub asked : List ℕ → ℕ → List Label → Progress → Parts → Question → Bool
-asked t cap ls pr l question.Text = true
-asked t cap ls pr l question.Label = right_label t ls l.label
-asked t cap ls pr l question.LabelRoom = label_room cap ls l.label
-asked t cap ls pr l question.Waiting = followed pr l
-asked t cap ls pr l question.Name = known l
-asked t cap ls pr l question.Order = in_order pr l
-asked t cap ls pr l question.Count = of_operands right_count l (named l.next)
-asked t cap ls pr l question.Form = of_operands right_form l (named l.next)
-asked t cap ls pr l question.Range = of_operands right_range l (named l.next)
-asked t cap ls pr l question.Words = few_words pr l
-asked t cap ls pr l question.End = true
-asked t cap ls pr l question.Defined = true
-asked t cap ls pr l question.Output = true
+abbrev pub asked : Names → ℕ → List Label → Progress → Parts → Question → Bool
+asked names cap ls pr l question.Text = true
+asked names cap ls pr l question.Label = right_label names ls l.label
+asked names cap ls pr l question.LabelRoom = label_room cap ls l.label
+asked names cap ls pr l question.Waiting = followed pr l
+asked names cap ls pr l question.Name = known l
+asked names cap ls pr l question.Order = in_order pr l
+asked names cap ls pr l question.Count = of_operands right_count l (named l.next)
+asked names cap ls pr l question.Form = of_operands right_form l (named l.next)
+asked names cap ls pr l question.Range = of_operands right_range l (named l.next)
+asked names cap ls pr l question.Words = few_words pr l
+asked names cap ls pr l question.End = true
+asked names cap ls pr l question.Defined = true
+asked names cap ls pr l question.Output = true
 
 -- the questions of a line, in their order
 abbrev pub line_questions : List Question
@@ -134,12 +160,12 @@ first_no answer [] = None
 first_no answer (q ∷ qs) = cond (answer q) (first_no answer qs) (Some q)
 
 -- the question that refuses a line, if one does
-abbrev pub refusal_in : List ℕ → ℕ → List Label → Progress → Parts → Option Question
-refusal_in t cap ls pr l = first_no (asked t cap ls pr l) line_questions
+abbrev pub refusal_in : Names → ℕ → List Label → Progress → Parts → Option Question
+refusal_in names cap ls pr l = first_no (asked names cap ls pr l) line_questions
 
--- the entry of a label whose line begins with it at a place: its address is the number of words before it
+-- the entry of a label whose line begins with it at a place: its address counts the words up to it
 abbrev pub entry_of : ℕ → Progress → List ℕ → Label
-entry_of p pr w = record { place = record { offset = p }; length = length w; address = pr.code + pr.pool }
+entry_of p pr w = record { place = place_at p; length = length w; address = pr.code + pr.pool }
 
 -- the label of a line is entered behind those before it
 abbrev pub labels_after : ℕ → List Label → Progress → Option (List ℕ) → List Label
@@ -202,7 +228,7 @@ body_questions = question.Waiting ∷ question.Name ∷ question.Order ∷ quest
 
 -- the first of them with a no; they ask nothing of the text, of the labels and of their maximum
 abbrev pub body_refusal : Progress → Parts → Option Question
-body_refusal pr l = first_no (asked [] 0 [] pr l) body_questions
+body_refusal pr l = first_no (asked (name_in []) 0 [] pr l) body_questions
 
 -- the progress after a line, or the refusal
 abbrev pub or_refused : {X : Type 0} → X → Option Question → Result X Question
@@ -214,8 +240,8 @@ abbrev pub body_of : Progress → Parts → Result Progress Question
 body_of pr l = or_refused (after pr l) (body_refusal pr l)
 
 -- questions 2 and 3
-abbrev pub label_refusal : List ℕ → ℕ → List Label → List ℕ → Option Question
-label_refusal t cap ls w = cond (right_label t ls (Some w)) (cond (label_room cap ls (Some w)) None (Some question.LabelRoom)) (Some question.Label)
+abbrev pub label_refusal : Names → ℕ → List Label → List ℕ → Option Question
+label_refusal names cap ls w = cond (right_label names ls (Some w)) (cond (label_room cap ls (Some w)) None (Some question.LabelRoom)) (Some question.Label)
 
 -- what a line adds: its label's entry, and the progress after it
 abbrev pub entries_of : ℕ → Progress → Option (List ℕ) → Option Label
@@ -227,5 +253,5 @@ abbrev pub judged_of : ℕ → Progress → Parts → Judged
 judged_of p pr l = record { label = entries_of p pr l.label; progress = after pr l }
 
 -- what a line adds, or the question that refuses it
-abbrev pub judge_of : List ℕ → ℕ → List Label → Progress → ℕ → Parts → Result Judged Question
-judge_of t cap ls pr p l = or_refused (judged_of p pr l) (refusal_in t cap ls pr l)
+abbrev pub judge_of : Names → ℕ → List Label → Progress → ℕ → Parts → Result Judged Question
+judge_of names cap ls pr p l = or_refused (judged_of p pr l) (refusal_in names cap ls pr l)

@@ -3,6 +3,7 @@
 ghost use Rattle.std.specs.Prelude.{◌≡◌, length};
 ghost use Rattle.bounded.specs.Held.{entries, room, KeepsRest};
 ghost use Rattle.output.specs.Overlay.{Wrote};
+ghost use Rattle.assembler.specs.Addresses.{LowLabels};
 ghost use Rattle.assembler.specs.Assembled.{assembled, answer_of, labels_of, output_of, executable_in};
 ghost use Rattle.assembler.specs.First.{ExactlyFirstNo};
 ghost use Rattle.assembler.specs.Progress.{progress_of};
@@ -19,6 +20,7 @@ use output::writer::Writer;
 
 /// Writes the executable, and answers its length.
 fn put_executable(symbols: Symbols, progress: Progress, out: &mut [u8]) -> usize
+    requires { LowLabels symbols.labels.now }
     ensures { Wrote out.old 0 (executable_in symbols.entry.text.now symbols.entry.labels.now (progress_of progress)) result out.new }
 {
     let first = find_start(symbols);

@@ -5,6 +5,8 @@ ghost use Rattle.std.specs.List.{flat_map};
 ghost use Rattle.std.specs.Option.{option_map};
 ghost use Rattle.lexer.specs.Text.{lines_of};
 ghost use Rattle.output.specs.Writes.{Put};
+ghost use Rattle.assembler.specs.Labels.{name_in};
+ghost use Rattle.assembler.specs.Addresses.{LowLabels, Clear};
 ghost use Rattle.assembler.specs.Characters.{characters, until_quote};
 ghost use Rattle.assembler.specs.Emit.{lost_from, start_from, string_constants, put_by, words_from, four_bytes, header_of};
 ghost use Rattle.assembler.specs.Statements.{meant};
@@ -19,7 +21,7 @@ use output::writer::Writer;
 
 /// The line of the first use of a label that is not defined.
 pub(crate) fn find_lost(symbols: Symbols) -> Option<usize>
-    ensures { result ≡ lost_from symbols.entry.text.now symbols.entry.labels.now 1 (lines_of symbols.entry.text.now) }
+    ensures { result ≡ lost_from (name_in symbols.entry.text.now) symbols.entry.labels.now 1 (lines_of symbols.entry.text.now) }
 {
     for line in Lines::new(symbols.text) {
         if symbols.lacks(statement_of(line)) {
@@ -31,7 +33,7 @@ pub(crate) fn find_lost(symbols: Symbols) -> Option<usize>
 
 /// The first instruction.
 pub(crate) fn find_start(symbols: Symbols) -> u32
-    ensures { result ≡ start_from symbols.entry.text.now symbols.entry.labels.now (lines_of symbols.entry.text.now) }
+    ensures { result ≡ start_from (name_in symbols.entry.text.now) symbols.entry.labels.now (lines_of symbols.entry.text.now) }
 {
     for line in Lines::new(symbols.text) {
         if let Some(first) = symbols.start_in(statement_of(line)) {
@@ -72,7 +74,9 @@ fn put_string(writer: &mut Writer, part: &[u8])
 
 /// Writes the words of a statement.
 fn put_statement(writer: &mut Writer, symbols: Symbols, statement: Option<Statement>)
-    ensures { Put writer.old (flat_map four_bytes (put_by symbols.entry.text.now symbols.entry.labels.now (option_map meant statement.entry))) writer.new }
+    requires low { LowLabels symbols.labels.now }
+    requires clear { Clear (option_map meant statement) }
+    ensures { Put writer.old (flat_map four_bytes (put_by (name_in symbols.entry.text.now) symbols.entry.labels.now (option_map meant statement.entry))) writer.new }
 {
     let Some(statement) = statement else {
         return;
@@ -81,7 +85,7 @@ fn put_statement(writer: &mut Writer, symbols: Symbols, statement: Option<Statem
         Statement::Code(word) | Statement::Constant(word) => put_word(writer, word),
         Statement::Labelled { word, label } => {
             let address = symbols.address_of(label).unwrap_or(0);
-            put_word(writer, word.wrapping_add(address));
+            put_word(writer, word | address);
         }
         Statement::Text(part) => put_string(writer, part),
         Statement::Stack(_) | Statement::End(_) | Statement::EndAt(_) => {}
@@ -90,7 +94,8 @@ fn put_statement(writer: &mut Writer, symbols: Symbols, statement: Option<Statem
 
 /// Writes the words of all lines.
 pub(crate) fn put_words(writer: &mut Writer, symbols: Symbols)
-    ensures { Put writer.old (flat_map four_bytes (words_from symbols.entry.text.now symbols.entry.labels.now (lines_of symbols.entry.text.now))) writer.new }
+    requires { LowLabels symbols.labels.now }
+    ensures { Put writer.old (flat_map four_bytes (words_from (name_in symbols.entry.text.now) symbols.entry.labels.now (lines_of symbols.entry.text.now))) writer.new }
 {
     for line in Lines::new(symbols.text) {
         put_statement(writer, symbols, statement_of(line));

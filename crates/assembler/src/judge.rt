@@ -3,6 +3,7 @@
 ghost use Rattle.std.specs.Prelude.{◌≡◌, ◌+◌, is_some, List, ℕ, Option};
 ghost use Rattle.lexer.specs.Cursor.{words_in};
 ghost use Rattle.lexer.specs.Text.{blanks, code_words};
+ghost use Rattle.assembler.specs.Labels.{name_in};
 ghost use Rattle.assembler.specs.Lines.{parts_by, parts_of};
 ghost use Rattle.assembler.specs.Progress.{progress_of, judged_as};
 ghost use Rattle.assembler.specs.Questions.{body_of, entry_of, judge_of, label_refusal, or_refused};
@@ -24,7 +25,7 @@ use lexer::words::Words;
 
 /// Questions 2 and 3 of a label.
 fn judge_label(symbols: Symbols, capacity: usize, name: &[u8]) -> Result<(), Question>
-    ensures { result ≡ or_refused tt (label_refusal symbols.entry.text.now capacity symbols.entry.labels.now name.now) }
+    ensures { result ≡ or_refused tt (label_refusal (name_in symbols.entry.text.now) capacity symbols.entry.labels.now name.now) }
 {
     if !is_usable(name) || symbols.address_of(name).is_some() {
         return Err(Question::Label);
@@ -66,12 +67,12 @@ fn judge_rest(progress: Progress, labelled: bool, mut words: Words) -> Result<Pr
     progress.advance(heading, statement)
 }
 
-/// The entry of a label: its address is the number of words before it.
+/// The entry of a label: its address counts the words up to it.
 fn entry_of(progress: Progress, place: usize, name: &[u8]) -> Label
     ensures { result ≡ entry_of place (progress_of progress) name.now }
 {
     Label {
-        place: Place { offset: place },
+        place: Place::at(place),
         length: name.len(),
         address: progress.sizes.total(),
     }
@@ -84,7 +85,7 @@ pub(crate) fn judge(
     progress: Progress,
     line: Line,
 ) -> Result<Judged, Question>
-    ensures { result_map judged_as result ≡ judge_of symbols.entry.text.now capacity symbols.entry.labels.now (progress_of progress) (line.entry.place + blanks line.entry.code.now) (parts_of (code_words line.entry.code.now)) }
+    ensures { result_map judged_as result ≡ judge_of (name_in symbols.entry.text.now) capacity symbols.entry.labels.now (progress_of progress) (line.entry.place + blanks line.entry.code.now) (parts_of (code_words line.entry.code.now)) }
 {
     match split_label(line) {
         (None, words) => Ok(Judged {

@@ -37,7 +37,10 @@ fn register_of(word: Word) -> Option<Register>
     let Word::Register(part) = word else {
         return None;
     };
-    Register::new(register_number(part)?)
+    let Some(number) = register_number(part) else {
+        return None;
+    };
+    Register::new(number)
 }
 
 /// The integer that a word writes.
@@ -97,7 +100,10 @@ pub(crate) fn read_modifier(word: Word) -> Result<i16, Question>
 fn immediate_from(number: i64) -> Option<Immediate>
     ensures { option_map (λ i. i.value) result ≡ in_bits 20 number }
 {
-    Immediate::new(i32::try_from(number).ok()?)
+    let Ok(number) = i32::try_from(number) else {
+        return None;
+    };
+    Immediate::new(number)
 }
 
 /// A signed number of 20 bits.
@@ -130,7 +136,10 @@ pub(crate) fn read_number(word: Word) -> Result<u32, Question>
 fn address_from(number: u64) -> Option<Address>
     ensures { option_map (λ a. a.value) result ≡ below (2 ^ 20) number }
 {
-    Address::new(u32::try_from(number).ok()?)
+    let Ok(number) = u32::try_from(number) else {
+        return None;
+    };
+    Address::new(number)
 }
 
 /// An address.
@@ -166,7 +175,7 @@ pub(crate) fn read_target<'a>(word: Word<'a>) -> Result<Target<'a>, Question>
 pub(crate) fn read_string<'a>(word: Word<'a>) -> Result<&'a [u8], Question>
     ensures { result_map (λ s. characters s.now) result ≡ placed a_string (shown word.entry) (Some (unwrap_or (characters_in (shown word.entry)) [])) }
 {
-    let Word::Text(part) = word else {
+    let Word::String(part) = word else {
         return Err(Question::Form);
     };
     let Some(_) = count_characters(part) else {

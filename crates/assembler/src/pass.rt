@@ -3,6 +3,7 @@
 ghost use Rattle.std.specs.Prelude.{◌≡◌, ◌<◌, ◌≤◌, true, [], is_some};
 ghost use Rattle.bounded.specs.Held.{entries, room, KeepsRest};
 ghost use Rattle.lexer.specs.Text.{lines_of};
+ghost use Rattle.assembler.specs.Labels.{name_in};
 ghost use Rattle.assembler.specs.Assembled.{entered, outcome, run_from, fresh};
 
 use crate::judge::judge;
@@ -28,7 +29,7 @@ fn enter(labels: &mut BoundedList<Label>, label: Option<Label>)
 
 /// Asks every line its questions, and fills the label list.
 pub(crate) fn first_pass(text: &[u8], labels: &mut BoundedList<Label>) -> Result<Progress, Refusal>
-    ensures told { outcome result (entries labels.new) ≡ run_from text.now (room labels.old) [] fresh 1 0 (lines_of text.now) }
+    ensures told { outcome result (entries labels.new) ≡ run_from (name_in text.now) (room labels.old) [] fresh 1 0 (lines_of text.now) }
     ensures room { room labels.new ≡ room labels.old }
     ensures rest { KeepsRest labels.old labels.new }
 {

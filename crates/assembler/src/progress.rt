@@ -8,7 +8,7 @@ mod calls;
 /// What the lines so far leave behind, besides their labels.
 #[derive(Clone, Copy)]
 pub(crate) struct Progress {
-    /// A label waits for its command or constant.
+    /// A label waits: no command or constant has come after it.
     pub(crate) waiting: bool,
     /// There was a label, command or constant.
     pub(crate) begun: bool,

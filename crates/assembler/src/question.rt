@@ -1,7 +1,7 @@
 //! The questions that a text is asked.
 
 ghost use Rattle.std.specs.Prelude.{◌≡◌};
-ghost use Rattle.assembler.specs.Questions.{number_of};
+ghost use Rattle.assembler.specs.Questions.{number_of, origin_at, refusal_at};
 
 /// A question of the assembler, in the order in which they are asked.
 #[derive(Clone, Copy)]
@@ -47,14 +47,23 @@ pub struct Refusal {
     pub origin: Origin,
 }
 
+impl Origin {
+    /// On a line, by its number, or on no line, by 0.
+    pub fn at(line: usize) -> Origin
+        ensures { result ≡ origin_at line }
+    {
+        Origin { line }
+    }
+}
+
 impl From<Question> for Refusal {
     // no line is the cause
-    ghost from_gives = { λ question refusal. refusal ≡ record { question = question; origin = record { line = 0 } } };
+    ghost from_gives = { λ question refusal. refusal ≡ refusal_at question 0 };
 
     fn from(question: Question) -> Refusal {
         Refusal {
             question,
-            origin: Origin { line: 0 },
+            origin: Origin::at(0),
         }
     }
 }
@@ -62,11 +71,11 @@ impl From<Question> for Refusal {
 impl Refusal {
     /// The refusal of a line, by its number.
     pub(crate) fn on_line(question: Question, line: usize) -> Refusal
-        ensures { result ≡ record { question = question; origin = record { line = line } } }
+        ensures { result ≡ refusal_at question line }
     {
         Refusal {
             question,
-            origin: Origin { line },
+            origin: Origin::at(line),
         }
     }
 }

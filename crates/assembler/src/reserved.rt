@@ -7,7 +7,7 @@ ghost use Rattle.assembler.specs.Labels.{label_byte, lawful, reserved, usable};
 use crate::mnemonic::Mnemonic;
 use lexer::word::register_number;
 
-/// Lowercase letters, digits, underscores and dots.
+/// A letter from `a` to `z`, a digit, an underscore or a dot.
 fn is_label_byte(b: u8) -> bool
     ensures { result ≡ label_byte b }
 {

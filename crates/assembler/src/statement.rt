@@ -9,7 +9,7 @@ pub enum Statement<'a> {
     Labelled { word: u32, label: &'a [u8] },
     /// A constant word.
     Constant(u32),
-    /// A string, in its quotes: a constant word for each character, and a 0.
+    /// A string, in its quotes. It gives as many constant words as it has characters, and one more, which is 0.
     Text(&'a [u8]),
     /// The initial stack pointer.
     Stack(u32),

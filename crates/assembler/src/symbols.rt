@@ -3,7 +3,7 @@
 ghost use Rattle.std.specs.Prelude.{◌≡◌, ℕ};
 ghost use Rattle.std.specs.Option.{option_map, unwrap_or};
 ghost use Rattle.assembler.specs.Emit.{is_lost, start_by, uses};
-ghost use Rattle.assembler.specs.Labels.{address_in};
+ghost use Rattle.assembler.specs.Labels.{address_in, name_in};
 ghost use Rattle.assembler.specs.Statements.{meant};
 
 use crate::label::Label;
@@ -20,7 +20,7 @@ pub(crate) struct Symbols<'a> {
 impl Symbols<'_> {
     /// The address of the first entry with a name.
     pub(crate) fn address_of(self, name: &[u8]) -> Option<u32>
-        ensures { result ≡ address_in self.entry.text.now name.now self.entry.labels.now }
+        ensures { result ≡ address_in (name_in self.entry.text.now) name.now self.entry.labels.now }
     {
         self.labels
             .iter()
@@ -30,7 +30,7 @@ impl Symbols<'_> {
 
     /// Whether a statement uses a label that is not defined.
     pub(crate) fn lacks(self, statement: Option<Statement>) -> bool
-        ensures { result ≡ is_lost self.entry.text.now self.entry.labels.now (uses (option_map meant statement.entry)) }
+        ensures { result ≡ is_lost (name_in self.entry.text.now) self.entry.labels.now (uses (option_map meant statement.entry)) }
     {
         match statement {
             Some(Statement::Labelled { label, .. } | Statement::EndAt(label)) => {
@@ -42,7 +42,7 @@ impl Symbols<'_> {
 
     /// The first instruction that a statement names, if it is an `end`.
     pub(crate) fn start_in(self, statement: Option<Statement>) -> Option<u32>
-        ensures { (d : ℕ) → unwrap_or result d ≡ start_by self.entry.text.now self.entry.labels.now (option_map meant statement.entry) d }
+        ensures { (d : ℕ) → unwrap_or result d ≡ start_by (name_in self.entry.text.now) self.entry.labels.now (option_map meant statement.entry) d }
     {
         match statement {
             Some(Statement::End(address)) => Some(address),

@@ -1,4 +1,4 @@
-//! A list with a maximum, over entries that the caller lends: one text for every kind of entry.
+//! A list that never outgrows the slice lent for it, written once for entries of any type.
 
 #![tactic(auto)]
 

@@ -4,7 +4,8 @@ ghost use Rattle.std.specs.Prelude.{◌≤◌, length};
 
 pub mod calls;
 
-/// A list over a lent slice: the first `len` items are its entries, and the slice's length is its maximum.
+/// A list in a slice that the caller lends: its entries are the first `len` items there, and the slice's length is the
+/// most that it can have.
 #[derive(Drop)]
 pub struct BoundedList<'a, T> {
     items: &'a mut [T],

@@ -1,7 +1,8 @@
 -- The labels that the lines leave.
 use Rattle.std.proofs.Common.{◌≡◌, ℕ, suc, ◌+◌, ◌-◌, ◌≤◌, Bool, true, false, cond, List, [], ◌∷◌, ◌++◌, length, take, Some, None, Option, sym, refl, ap, ◌∙◌, subst, arith}
 use Rattle.std.proofs.lemmas.List.{append-nil, append_assoc}
-use Rattle.lexer.specs.Text.{lines_of, before, blanks}
+use Rattle.lexer.specs.Text.{lines_of, code_of, blanks}
+use Rattle.assembler.specs.Labels.{name_in}
 use Rattle.assembler.specs.Assembled.{Outcome, passed, refused, on_line, run_from, fresh}
 use Rattle.assembler.specs.Questions.{asked, first_no, line_questions, refusal_in, labels_after, after}
 use Rattle.assembler.specs.declared.label.Label.{Label}
@@ -61,30 +62,30 @@ one_more ls e n made all l rest (refused q m ls') is h =
     (h.0, omega arith, h.2 ∙ append_assoc ls e (made (take (m - (n + 1)) rest)) ∙ sym (ap (λ x. ls ++ x) (is (take (m - (n + 1)) rest))) ∙ ap (λ k. ls ++ all (take k (l ∷ rest))) on)
 
 module _ (t : List ℕ) (cap : ℕ) where
-  line_step : (ls : List Label) (pr : Progress) (n p : ℕ) (l : List ℕ) (rest : List (List ℕ)) (next : Outcome) (o : Option Question) → refusal_in t cap ls pr (line_parts l) ≡ o
-      → Leaves (labels_after (p + blanks (before 35 l)) ls pr (line_parts l).label) (n + 1) (labels_in (p + length l + 1) ((after pr (line_parts l)).code + (after pr (line_parts l)).pool)) rest next
+  line_step : (ls : List Label) (pr : Progress) (n p : ℕ) (l : List ℕ) (rest : List (List ℕ)) (next : Outcome) (o : Option Question) → refusal_in (name_in t) cap ls pr (line_parts l) ≡ o
+      → Leaves (labels_after (p + blanks (code_of l)) ls pr (line_parts l).label) (n + 1) (labels_in (p + length l + 1) ((after pr (line_parts l)).code + (after pr (line_parts l)).pool)) rest next
       → Leaves ls n (labels_in p (pr.code + pr.pool)) (l ∷ rest) (on_line n ls o next)
   line_step ls pr n p l rest next (Some q) is more =
       let none : 0 ≡ n - n = omega arith in
-      (refuses_line (asked t cap ls pr (line_parts l)) line_questions q line_asked is, omega arith, sym (append-nil ls) ∙ ap (λ k. ls ++ labels_in p (pr.code + pr.pool) (take k (l ∷ rest))) none)
+      (refuses_line (asked (name_in t) cap ls pr (line_parts l)) line_questions q line_asked is, omega arith, sym (append-nil ls) ∙ ap (λ k. ls ++ labels_in p (pr.code + pr.pool) (take k (l ∷ rest))) none)
   line_step ls pr n p l rest next None is more =
       let k = pr.code + pr.pool in
-      let e = entry_at (p + blanks (before 35 l)) k (line_parts l).label in
-      let more' = subst (λ x. Leaves x (n + 1) (labels_in (p + length l + 1) ((after pr (line_parts l)).code + (after pr (line_parts l)).pool)) rest next) (entered_at (p + blanks (before 35 l)) ls pr (line_parts l).label) more in
+      let e = entry_at (p + blanks (code_of l)) k (line_parts l).label in
+      let more' = subst (λ x. Leaves x (n + 1) (labels_in (p + length l + 1) ((after pr (line_parts l)).code + (after pr (line_parts l)).pool)) rest next) (entered_at (p + blanks (code_of l)) ls pr (line_parts l).label) more in
       let more'' = subst (λ c. Leaves (ls ++ e) (n + 1) (labels_in (p + length l + 1) c) rest next) (passing t cap ls pr (line_parts l) is).counts more' in
       one_more ls e n (labels_in (p + length l + 1) (k + count_on l)) (labels_in p k) l rest next (λ xs. refl) more''
 
-  leaves : (lines : List (List ℕ)) (ls : List Label) (pr : Progress) (n p : ℕ) → Leaves ls n (labels_in p (pr.code + pr.pool)) lines (run_from t cap ls pr n p lines)
+  leaves : (lines : List (List ℕ)) (ls : List Label) (pr : Progress) (n p : ℕ) → Leaves ls n (labels_in p (pr.code + pr.pool)) lines (run_from (name_in t) cap ls pr n p lines)
   leaves [] ls pr n p = sym (append-nil ls)
   leaves (l ∷ rest) ls pr n p =
-      line_step ls pr n p l rest _ (refusal_in t cap ls pr (line_parts l)) refl
-      (leaves rest (labels_after (p + blanks (before 35 l)) ls pr (line_parts l).label) (after pr (line_parts l)) (n + 1) (p + length l + 1))
+      line_step ls pr n p l rest _ (refusal_in (name_in t) cap ls pr (line_parts l)) refl
+      (leaves rest (labels_after (p + blanks (code_of l)) ls pr (line_parts l).label) (after pr (line_parts l)) (n + 1) (p + length l + 1))
 
   -- the labels that lines leave where they pass
-  pub passed_labels : (lines : List (List ℕ)) (ls : List Label) (pr : Progress) → run_from t cap [] fresh 1 0 lines ≡ passed ls pr → ls ≡ labels_in 0 0 lines
+  pub passed_labels : (lines : List (List ℕ)) (ls : List Label) (pr : Progress) → run_from (name_in t) cap [] fresh 1 0 lines ≡ passed ls pr → ls ≡ labels_in 0 0 lines
   passed_labels lines ls pr e = subst (Leaves [] 1 (labels_in 0 0) lines) e (leaves lines [] fresh 1 0)
 
-  pub all_labels : (ls : List Label) (pr : Progress) → run_from t cap [] fresh 1 0 (lines_of t) ≡ passed ls pr → ls ≡ text_labels t
+  pub all_labels : (ls : List Label) (pr : Progress) → run_from (name_in t) cap [] fresh 1 0 (lines_of t) ≡ passed ls pr → ls ≡ text_labels t
   all_labels = passed_labels (lines_of t)
 
   before_line : (q : Question) (n : ℕ) → OfLine q → labels_before t n ≡ labels_refused t q n
@@ -102,7 +103,7 @@ module _ (t : List ℕ) (cap : ℕ) where
   before_line question.Defined n of = absurd of
   before_line question.Output n of = absurd of
 
-  pub refused_labels : (q : Question) (n : ℕ) (ls : List Label) → run_from t cap [] fresh 1 0 (lines_of t) ≡ refused q n ls → ls ≡ labels_refused t q n
+  pub refused_labels : (q : Question) (n : ℕ) (ls : List Label) → run_from (name_in t) cap [] fresh 1 0 (lines_of t) ≡ refused q n ls → ls ≡ labels_refused t q n
   refused_labels q n ls e =
       let h = subst (Leaves [] 1 (labels_in 0 0) (lines_of t)) e (leaves (lines_of t) [] fresh 1 0) in
       h.2 ∙ before_line q n h.0

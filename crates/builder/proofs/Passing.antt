@@ -1,6 +1,7 @@
 -- What a line that is not refused has got a yes to.
 use Rattle.std.proofs.Common.{◌≡◌, ℕ, ◌+◌, ◌≤◌, Bool, true, false, cond, List, [], ◌∷◌, ◌++◌, Some, None, Option, refl, ap, ◌∙◌, arith}
 use Rattle.std.proofs.lemmas.Bool.{leb-true}
+use Rattle.assembler.specs.Labels.{name_in}
 use Rattle.assembler.specs.Lines.{Parts, named, statement_in}
 use Rattle.assembler.specs.Operands.{right_count, right_form, right_range}
 use Rattle.assembler.specs.Questions.{asked, first_no, refusal_in, of_operands, in_order, code_words, data_words, after}
@@ -37,9 +38,9 @@ pub record Passing (pr : Progress) (l : Parts) : Type 0 where
   pub few : (after pr l).code + (after pr l).pool ≤ 65536
   pub counts : (after pr l).code + (after pr l).pool ≡ pr.code + pr.pool + count_by (named l.next) l.operands
 
-pub passing : (t : List ℕ) (cap : ℕ) (ls : List Label) (pr : Progress) (l : Parts) → refusal_in t cap ls pr l ≡ None → Passing pr l
+pub passing : (t : List ℕ) (cap : ℕ) (ls : List Label) (pr : Progress) (l : Parts) → refusal_in (name_in t) cap ls pr l ≡ None → Passing pr l
 passing t cap ls pr l ok =
-    let f = asked t cap ls pr l in
+    let f = asked (name_in t) cap ls pr l in
     let front = question.Label ∷ question.LabelRoom ∷ question.Waiting ∷ question.Name ∷ [] in
     let count = asks f (front ++ question.Order ∷ []) question.Count (question.Form ∷ question.Range ∷ question.Words ∷ []) ok in
     let form = asks f (front ++ question.Order ∷ question.Count ∷ []) question.Form (question.Range ∷ question.Words ∷ []) ok in

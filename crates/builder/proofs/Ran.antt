@@ -2,7 +2,8 @@
 use Rattle.std.proofs.Common.{◌≡◌, ℕ, ◌+◌, ◌<◌, ◌≤◌, Bool, true, false, not, ◌&&◌, ◌||◌, List, [], ◌∷◌, ◌++◌, length, Some, None, Option, sym, refl, ap, ◌∙◌, subst, ⊎_elim, arith, length-append}
 use Rattle.std.proofs.lemmas.Bool.{and_parts, or_left, or_right, or_from, not-true, both_ways, true≢false, false≢true, cases_Bool}
 use Rattle.lexer.specs.Shown.{Shown}
-use Rattle.lexer.specs.Text.{before, blanks}
+use Rattle.lexer.specs.Text.{code_of, blanks}
+use Rattle.assembler.specs.Labels.{name_in}
 use Rattle.assembler.specs.Assembled.{Outcome, passed, on_line, run_from}
 use Rattle.assembler.specs.Emit.{put_by, words_from, start_from, start_by as start_said}
 use Rattle.assembler.specs.Lines.{named, statement_in}
@@ -19,7 +20,7 @@ use Rattle.builder.proofs.Said.{puts, code_count, constant_count, starts, stacks
 use Rattle.builder.proofs.Small.{Low, low_entry, start_low, stack_low}
 
 -- what a name says of the words, where it is none of code
-no_code : (t : List ℕ) (ls : List Label) (o : Option Mnemonic) (ws : List Shown) → is is_code o ≡ false → code_by t ls o ws ≡ []
+no_code : (t : List ℕ) (ls : List Label) (o : Option Mnemonic) (ws : List Shown) → is is_code o ≡ false → code_by (name_in t) ls o ws ≡ []
 no_code t ls None ws e = refl
 no_code t ls (Some (Command o)) ws e = absurd (true≢false e)
 no_code t ls (Some Word) ws e = absurd (true≢false e)
@@ -48,7 +49,7 @@ is_stack_any (Some Stack) ws m n e = refl
 is_stack_any (Some End) ws m n e = absurd (false≢true e)
 
 -- behind a constant there is no code
-sorts : (t : List ℕ) (ls : List Label) (o : Option Mnemonic) (ws : List Shown) (c k : List ℕ) → (is is_constant o ≡ true → c ≡ []) → (code_by t ls o ws ++ constants_by o ws) ++ (c ++ k) ≡ (code_by t ls o ws ++ c) ++ (constants_by o ws ++ k)
+sorts : (t : List ℕ) (ls : List Label) (o : Option Mnemonic) (ws : List Shown) (c k : List ℕ) → (is is_constant o ≡ true → c ≡ []) → (code_by (name_in t) ls o ws ++ constants_by o ws) ++ (c ++ k) ≡ (code_by (name_in t) ls o ws ++ c) ++ (constants_by o ws ++ k)
 sorts t ls None ws c k none = refl
 sorts t ls (Some (Command o)) ws c k none = refl
 sorts t ls (Some Word) ws c k none = refl
@@ -72,13 +73,13 @@ other false b e h = refl
 module _ (t : List ℕ) (ls : List Label) where
   -- lines that lead from one progress to another
   pub record Ran (pr pr' : Progress) (lines : List (List ℕ)) : Type 0 where
-    pub words : words_from t ls lines ≡ code_in t ls lines ++ constants_in lines
-    pub late : pr.constants ≡ true → code_in t ls lines ≡ []
-    pub code : pr'.code ≡ pr.code + length (code_in t ls lines)
+    pub words : words_from (name_in t) ls lines ≡ code_in (name_in t) ls lines ++ constants_in lines
+    pub late : pr.constants ≡ true → code_in (name_in t) ls lines ≡ []
+    pub code : pr'.code ≡ pr.code + length (code_in (name_in t) ls lines)
     pub pool : pr'.pool ≡ pr.pool + length (constants_in lines)
     pub few : pr.code + pr.pool ≤ 65536 → pr'.code + pr'.pool ≤ 65536
-    pub start : start_from t ls lines ≡ start_in t ls lines
-    pub first : Low ls → start_in t ls lines < 1048576
+    pub start : start_from (name_in t) ls lines ≡ start_in (name_in t) ls lines
+    pub first : Low ls → start_in (name_in t) ls lines < 1048576
     pub kept : pr.stacked ≡ true → pr'.stack ≡ pr.stack
     pub stack : pr.stacked ≡ false → pr.stack ≡ 1048575 → pr'.stack ≡ stack_in lines
     pub pointer : stack_in lines < 1048576
@@ -109,20 +110,20 @@ module _ (t : List ℕ) (ls : List Label) where
     ordered : ((is is_stack o && (pr.begun || pr.stacked)) ≡ false) × ((is is_code o && pr.constants) ≡ false)
     ordered = in_order pr (has_words (line_parts l)) o yes.order
 
-    more_words : words_from t ls (l ∷ rest) ≡ code_in t ls (l ∷ rest) ++ constants_in (l ∷ rest)
+    more_words : words_from (name_in t) ls (l ∷ rest) ≡ code_in (name_in t) ls (l ∷ rest) ++ constants_in (l ∷ rest)
     more_words =
-        ap (λ x. put_by t ls x ++ words_from t ls rest) yes.says
-        ∙ ap (λ x. x ++ words_from t ls rest) (puts t ls o ws)
-        ∙ ap (λ x. (code_by t ls o ws ++ constants_by o ws) ++ x) more.words
-        ∙ sorts t ls o ws (code_in t ls rest) (constants_in rest) (λ e. more.late (or_right pr.constants (is is_constant o) e))
+        ap (λ x. put_by (name_in t) ls x ++ words_from (name_in t) ls rest) yes.says
+        ∙ ap (λ x. x ++ words_from (name_in t) ls rest) (puts t ls o ws)
+        ∙ ap (λ x. (code_by (name_in t) ls o ws ++ constants_by o ws) ++ x) more.words
+        ∙ sorts t ls o ws (code_in (name_in t) ls rest) (constants_in rest) (λ e. more.late (or_right pr.constants (is is_constant o) e))
 
-    more_late : pr.constants ≡ true → code_in t ls (l ∷ rest) ≡ []
-    more_late e = ap (λ x. x ++ code_in t ls rest) (no_code t ls o ws (other (is is_code o) pr.constants ordered.1 e)) ∙ more.late (or_left pr.constants (is is_constant o) e)
+    more_late : pr.constants ≡ true → code_in (name_in t) ls (l ∷ rest) ≡ []
+    more_late e = ap (λ x. x ++ code_in (name_in t) ls rest) (no_code t ls o ws (other (is is_code o) pr.constants ordered.1 e)) ∙ more.late (or_left pr.constants (is is_constant o) e)
 
-    more_code : pr'.code ≡ pr.code + length (code_in t ls (l ∷ rest))
+    more_code : pr'.code ≡ pr.code + length (code_in (name_in t) ls (l ∷ rest))
     more_code =
-        let n : code_words (statement_in (line_parts l)) ≡ length (line_code t ls l) = ap code_words yes.says ∙ code_count t ls o ws in
-        let all = length-append (line_code t ls l) (code_in t ls rest) in
+        let n : code_words (statement_in (line_parts l)) ≡ length (line_code (name_in t) ls l) = ap code_words yes.says ∙ code_count t ls o ws in
+        let all = length-append (line_code (name_in t) ls l) (code_in (name_in t) ls rest) in
         let next = more.code in
         omega arith
 
@@ -149,7 +150,7 @@ module _ (t : List ℕ) (ls : List Label) where
 
     more_low : (p : ℕ) → pr.code + pr.pool ≤ 65536 → Low (labels_in p (pr.code + pr.pool) (l ∷ rest))
     more_low p h =
-        low_entry (p + blanks (before 35 l)) (pr.code + pr.pool) (line_parts l).label (labels_in (p + length l + 1) (pr.code + pr.pool + count_on l) rest) h
+        low_entry (p + blanks (code_of l)) (pr.code + pr.pool) (line_parts l).label (labels_in (p + length l + 1) (pr.code + pr.pool + count_on l) rest) h
         (subst (λ k. Low (labels_in (p + length l + 1) k rest)) yes.counts (more.low (p + length l + 1) yes.few))
 
     one_more : Ran pr pr' (l ∷ rest)
@@ -159,8 +160,8 @@ module _ (t : List ℕ) (ls : List Label) where
       code = more_code;
       pool = more_pool;
       few = λ h. more.few yes.few;
-      start = ap (λ x. start_said t ls x (start_from t ls rest)) yes.says ∙ starts t ls o ws (start_from t ls rest) ∙ ap (start_by t ls o ws) more.start;
-      first = λ h. start_low t ls o ws (start_in t ls rest) yes.right h (more.first h);
+      start = ap (λ x. start_said (name_in t) ls x (start_from (name_in t) ls rest)) yes.says ∙ starts t ls o ws (start_from (name_in t) ls rest) ∙ ap (start_by (name_in t) ls o ws) more.start;
+      first = λ h. start_low t ls o ws (start_in (name_in t) ls rest) yes.right h (more.first h);
       kept = more_kept;
       stack = more_stack;
       pointer = stack_low o ws (stack_in rest) yes.right more.pointer;
@@ -172,8 +173,8 @@ module _ (t : List ℕ) (ls : List Label) where
   goes_on n held held' (Some q) next pr' e = let z : ◌≡◌ {A = ℕ} 0 1 = cc in absurd (omega arith)
   goes_on n held held' None next pr' e = (refl, e)
 
-  pub ran : (cap : ℕ) (lines : List (List ℕ)) (held held' : List Label) (pr pr' : Progress) (n p : ℕ) → run_from t cap held pr n p lines ≡ passed held' pr' → Ran pr pr' lines
+  pub ran : (cap : ℕ) (lines : List (List ℕ)) (held held' : List Label) (pr pr' : Progress) (n p : ℕ) → run_from (name_in t) cap held pr n p lines ≡ passed held' pr' → Ran pr pr' lines
   ran cap [] held held' pr pr' n p e = let same : pr ≡ pr' = cc in subst (λ x. Ran pr x []) same (nothing pr)
   ran cap (l ∷ rest) held held' pr pr' n p e =
-      let both = goes_on n held held' (refusal_in t cap held pr (line_parts l)) _ pr' e in
+      let both = goes_on n held held' (refusal_in (name_in t) cap held pr (line_parts l)) _ pr' e in
       one_more pr pr' l rest (passing t cap held pr (line_parts l) both.0) (ran cap rest _ held' (after pr (line_parts l)) pr' (n + 1) (p + length l + 1) both.1)

@@ -8,6 +8,7 @@ use Rattle.isa.specs.declared.form.Form.{Form}
 use Rattle.isa.specs.declared.form.Form.TheVariants.{Rr, Ri, Rm, J}
 use Rattle.isa.specs.declared.opcode.Opcode.{Opcode}
 use Rattle.lexer.specs.Shown.{Shown, label, name, register, number, string}
+use Rattle.assembler.specs.Labels.{name_in}
 use Rattle.assembler.specs.Emit.{address_of, put_by, start_by as start_said}
 use Rattle.assembler.specs.Lines.{said_by}
 use Rattle.assembler.specs.Operands.{label_in, natural_in, operand, register_at, natural_at, characters_at, right_count, right_form, right_range}
@@ -50,27 +51,27 @@ no_number (string w) l e = refl
 
 module _ (t : List ℕ) (ls : List Label) where
   -- a label's address added to the word with 0 is the word with that address
-  put_with : (g : ℕ → ℕ) → ((a : ℕ) → g 0 + a ≡ g a) → (n : ℕ) (o : Option (List ℕ)) → ((l : List ℕ) → o ≡ Some l → n ≡ 0) → put_by t ls (Some (code_with (g n) o)) ≡ g (address_by t ls o n) ∷ []
+  put_with : (g : ℕ → ℕ) → ((a : ℕ) → g 0 + a ≡ g a) → (n : ℕ) (o : Option (List ℕ)) → ((l : List ℕ) → o ≡ Some l → n ≡ 0) → put_by (name_in t) ls (Some (code_with (g n) o)) ≡ g (address_by (name_in t) ls o n) ∷ []
   put_with g law n None zero = refl
-  put_with g law n (Some l) zero = ap (λ x. x ∷ []) (ap (λ k. g k + address_of t ls l) (zero l refl) ∙ law (address_of t ls l))
+  put_with g law n (Some l) zero = ap (λ x. x ∷ []) (ap (λ k. g k + address_of (name_in t) ls l) (zero l refl) ∙ law (address_of (name_in t) ls l))
 
-  put_form : (o : Opcode) (f : Form) (ws : List Shown) → put_by t ls (Some (code_with (encoded (instruction o (numbers_said f ws))) (label_by f ws))) ≡ encoded (instruction o (numbers_by t ls f ws)) ∷ []
+  put_form : (o : Opcode) (f : Form) (ws : List Shown) → put_by (name_in t) ls (Some (code_with (encoded (instruction o (numbers_said f ws))) (label_by f ws))) ≡ encoded (instruction o (numbers_by (name_in t) ls f ws)) ∷ []
   put_form o Rr ws = refl
   put_form o Ri ws = refl
   put_form o Rm ws = put_with (λ n. encoded (instruction o (rm (register_at 0 ws) n))) (λ a. omega arith) (natural_at 1 ws) (label_in (operand 1 ws)) (no_number (operand 1 ws))
   put_form o J ws = put_with (λ n. encoded (instruction o (j n))) (λ a. omega arith) (natural_at 0 ws) (label_in (operand 0 ws)) (no_number (operand 0 ws))
 
   -- the words are the code and the constants
-  pub puts : (o : Option Mnemonic) (ws : List Shown) → put_by t ls (stated_by o ws) ≡ code_by t ls o ws ++ constants_by o ws
+  pub puts : (o : Option Mnemonic) (ws : List Shown) → put_by (name_in t) ls (stated_by o ws) ≡ code_by (name_in t) ls o ws ++ constants_by o ws
   puts None ws = refl
   puts (Some (Command o)) ws = put_form o (form_of o) ws
   puts (Some Word) ws = refl
   puts (Some Uint32) ws = refl
   puts (Some Text) ws = refl
   puts (Some Stack) ws = refl
-  puts (Some End) ws = end_by (put_by t ls) [] (λ n. refl) (λ l. refl) (natural_at 0 ws) (label_in (operand 0 ws))
+  puts (Some End) ws = end_by (put_by (name_in t) ls) [] (λ n. refl) (λ l. refl) (natural_at 0 ws) (label_in (operand 0 ws))
 
-  pub code_count : (o : Option Mnemonic) (ws : List Shown) → code_words (stated_by o ws) ≡ length (code_by t ls o ws)
+  pub code_count : (o : Option Mnemonic) (ws : List Shown) → code_words (stated_by o ws) ≡ length (code_by (name_in t) ls o ws)
   code_count None ws = refl
   code_count (Some (Command o)) ws = by_code_with code_words 1 (λ w. refl) (λ w l. refl) _ (label_by (form_of o) ws)
   code_count (Some Word) ws = refl
@@ -79,13 +80,13 @@ module _ (t : List ℕ) (ls : List Label) where
   code_count (Some Stack) ws = refl
   code_count (Some End) ws = end_by code_words 0 (λ n. refl) (λ l. refl) (natural_at 0 ws) (label_in (operand 0 ws))
 
-  start_end : (n d : ℕ) (o : Option (List ℕ)) → start_said t ls (Some (end_with n o)) d ≡ address_by t ls o n
+  start_end : (n d : ℕ) (o : Option (List ℕ)) → start_said (name_in t) ls (Some (end_with n o)) d ≡ address_by (name_in t) ls o n
   start_end n d None = refl
   start_end n d (Some l) = refl
 
-  pub starts : (o : Option Mnemonic) (ws : List Shown) (d : ℕ) → start_said t ls (stated_by o ws) d ≡ start_by t ls o ws d
+  pub starts : (o : Option Mnemonic) (ws : List Shown) (d : ℕ) → start_said (name_in t) ls (stated_by o ws) d ≡ start_by (name_in t) ls o ws d
   starts None ws d = refl
-  starts (Some (Command o)) ws d = by_code_with (λ x. start_said t ls x d) d (λ w. refl) (λ w l. refl) _ (label_by (form_of o) ws)
+  starts (Some (Command o)) ws d = by_code_with (λ x. start_said (name_in t) ls x d) d (λ w. refl) (λ w l. refl) _ (label_by (form_of o) ws)
   starts (Some Word) ws d = refl
   starts (Some Uint32) ws d = refl
   starts (Some Text) ws d = refl

@@ -23,7 +23,7 @@ pub low_entry : (p k : ℕ) (w : Option (List ℕ)) (xs : List Label) → k ≤ 
 low_entry p k None xs h more = more
 low_entry p k (Some w) xs h more = (h, more)
 
-address_low : (t w : List ℕ) (ls : List Label) → Low ls → address_of t ls w ≤ 65536
+address_low : (t w : List ℕ) (ls : List Label) → Low ls → address_of (name_in t) ls w ≤ 65536
 address_low t w [] h = omega arith
 address_low t w (x ∷ xs) h = cond_both (bytes_eq (name_in t x) w) (Some x) (find (λ (l : Label). bytes_eq (name_in t l) w) xs) (λ (o : Option Label). unwrap_or (option_map (λ (l : Label). l.address) o) 0 ≤ 65536) (λ e. h.0) (λ e. address_low t w xs h.1)
 
@@ -36,11 +36,11 @@ number_low : (p : Place) (ws : List Shown) → ((w : Shown) → in_range p w ≡
 number_low p [] limit e = omega arith
 number_low p (w ∷ ws) limit e = below (natural_in w) (limit w (and_parts (in_range p w) (each in_range [] ws) e).0)
 
-target_low : (t : List ℕ) (ls : List Label) (n : ℕ) (o : Option (List ℕ)) → Low ls → n < 1048576 → address_by t ls o n < 1048576
+target_low : (t : List ℕ) (ls : List Label) (n : ℕ) (o : Option (List ℕ)) → Low ls → n < 1048576 → address_by (name_in t) ls o n < 1048576
 target_low t ls n None low h = h
 target_low t ls n (Some l) low h = let a = address_low t l ls low in omega arith
 
-pub start_low : (t : List ℕ) (ls : List Label) (o : Option Mnemonic) (ws : List Shown) (d : ℕ) → Right o ws → Low ls → d < 1048576 → start_by t ls o ws d < 1048576
+pub start_low : (t : List ℕ) (ls : List Label) (o : Option Mnemonic) (ws : List Shown) (d : ℕ) → Right o ws → Low ls → d < 1048576 → start_by (name_in t) ls o ws d < 1048576
 start_low t ls None ws d r low h = h
 start_low t ls (Some (Command o)) ws d r low h = h
 start_low t ls (Some Word) ws d r low h = h

@@ -2,6 +2,7 @@
 use Rattle.std.proofs.Common.{◌≡◌, ℕ, ◌+◌, Bool, true, false, cond, not, ◌&&◌, ◌||◌, List, [], ◌∷◌, length, map, filter, is_some, Some, None, Option, sym, refl, ap, ◌∙◌, subst, arith}
 use Rattle.std.proofs.lemmas.Bool.{true≢false, false≢true}
 use Rattle.lexer.specs.Shown.{Shown}
+use Rattle.assembler.specs.Labels.{name_in}
 use Rattle.assembler.specs.Assembled.{passed, run_from, fresh}
 use Rattle.assembler.specs.Lines.{Parts, named, statement_in}
 use Rattle.assembler.specs.Mnemonics.{is_code, is_constant, is_stack}
@@ -132,10 +133,10 @@ one_more pr pr' l rest right more =
 
 module _ (t : List ℕ) (cap : ℕ) where
   -- lines that pass lead so from the progress in front of them to the one behind
-  stood : (lines : List (List ℕ)) (held held' : List Label) (pr pr' : Progress) (n p : ℕ) → run_from t cap held pr n p lines ≡ passed held' pr' → Stood pr pr' lines
+  stood : (lines : List (List ℕ)) (held held' : List Label) (pr pr' : Progress) (n p : ℕ) → run_from (name_in t) cap held pr n p lines ≡ passed held' pr' → Stood pr pr' lines
   stood [] held held' pr pr' n p e = let same : pr ≡ pr' = cc in subst (λ x. Stood pr x []) same (none_stood pr)
   stood (l ∷ rest) held held' pr pr' n p e =
-      let both = goes_on t held n held held' (refusal_in t cap held pr (line_parts l)) _ pr' e in
+      let both = goes_on t held n held held' (refusal_in (name_in t) cap held pr (line_parts l)) _ pr' e in
       one_more pr pr' l rest (passing t cap held pr (line_parts l) both.0) (stood rest _ held' (after pr (line_parts l)) pr' (n + 1) _ both.1)
 
   -- a progress by its parts
@@ -148,7 +149,7 @@ module _ (t : List ℕ) (cap : ℕ) where
   fresh_waits (Some l) = refl
 
   -- what the lines of a text leave where they pass is what stands on them
-  pub stands_on : (lines : List (List ℕ)) (held : List Label) (pr : Progress) → run_from t cap [] fresh 1 0 lines ≡ passed held pr → pr ≡ standing_on lines
+  pub stands_on : (lines : List (List ℕ)) (held : List Label) (pr : Progress) → run_from (name_in t) cap [] fresh 1 0 lines ≡ passed held pr → pr ≡ standing_on lines
   stands_on lines held pr e =
       let s = stood lines [] held fresh pr 1 0 e in
       let r = ran t [] cap lines [] held fresh pr 1 0 e in

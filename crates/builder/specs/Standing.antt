@@ -2,12 +2,13 @@
 use Rattle.std.specs.Prelude.{◌≡◌, ℕ, ◌-◌, ◌<◌, ◌≤◌, Bool, true, false, ◌&&◌, ◌||◌, not, List, [], ◌∷◌, length, map, take, filter, is_some, Some, None, Err, Option, Result, slice_index_or}
 use Rattle.std.specs.List.{list_any}
 use Rattle.lexer.specs.Text.{lines_of}
+use Rattle.assembler.specs.Labels.{name_in}
 use Rattle.assembler.specs.Assembled.{right_text, room_for}
 use Rattle.assembler.specs.Emit.{lost_from}
 use Rattle.assembler.specs.Lines.{Parts, named}
 use Rattle.assembler.specs.Mnemonics.{is_code, is_constant, is_stack}
 use Rattle.assembler.specs.Progress.{Progress}
-use Rattle.assembler.specs.Questions.{asked, has_words, is, number_of}
+use Rattle.assembler.specs.Questions.{asked, has_words, is, rank_of, refusal_at}
 use Rattle.assembler.specs.declared.mnemonic.Mnemonic.{Mnemonic}
 use Rattle.assembler.specs.declared.mnemonic.Mnemonic.TheVariants.{Command, Word, Uint32, Text, Stack, End}
 use Rattle.assembler.specs.declared.question.Question.{Question}
@@ -88,7 +89,7 @@ standing_before t n = standing_on (take (n - 1) (lines_of t))
 
 -- the answer of line n to a question, by the labels and by what stands on the lines before it
 abbrev pub line_asked : List ℕ → ℕ → ℕ → Question → Bool
-line_asked t cap n q = asked t cap (labels_before t n) (standing_before t n) (line_parts (line_at t n)) q
+line_asked t cap n q = asked (name_in t) cap (labels_before t n) (standing_before t n) (line_parts (line_at t n)) q
 
 -- every line before line n answers yes to every question
 abbrev pub YesBefore : List ℕ → ℕ → ℕ → Type 0
@@ -98,9 +99,9 @@ YesBefore t cap n = (k : ℕ) (p : Question) → 1 ≤ k → k < n → line_aske
 abbrev pub AllYes : List ℕ → ℕ → Type 0
 AllYes t cap = (right_text t ≡ true) × ((k : ℕ) (p : Question) → 1 ≤ k → k ≤ length (lines_of t) → line_asked t cap k p ≡ true)
 
--- of a right text line n answers no to a question and yes to each with a smaller number, and every line before it yes to all
+-- of a right text line n answers no to a question and yes to each that is asked before it, and every line before it yes to all
 abbrev pub NoAt : List ℕ → ℕ → Question → ℕ → Type 0
-NoAt t cap q n = (right_text t ≡ true) × (1 ≤ n) × (n ≤ length (lines_of t)) × (line_asked t cap n q ≡ false) × ((p : Question) → number_of p < number_of q → line_asked t cap n p ≡ true) × YesBefore t cap n
+NoAt t cap q n = (right_text t ≡ true) × (1 ≤ n) × (n ≤ length (lines_of t)) × (line_asked t cap n q ≡ false) × ((p : Question) → rank_of p < rank_of q → line_asked t cap n p ≡ true) × YesBefore t cap n
 
 -- a question is the first of all with a no, and n is its line, or 0 where no line is the cause; 11, 12 and 13 come after all lines
 abbrev pub FirstOfAll : List ℕ → ℕ → ℕ → Question → ℕ → Type 0
@@ -115,9 +116,9 @@ FirstOfAll t cap room question.Form n = NoAt t cap question.Form n
 FirstOfAll t cap room question.Range n = NoAt t cap question.Range n
 FirstOfAll t cap room question.Words n = NoAt t cap question.Words n
 FirstOfAll t cap room question.End n = AllYes t cap × (some_line (names is_end) (lines_of t) ≡ false) × (n ≡ 0)
-FirstOfAll t cap room question.Defined n = AllYes t cap × (some_line (names is_end) (lines_of t) ≡ true) × (lost_from t (text_labels t) 1 (lines_of t) ≡ Some n)
-FirstOfAll t cap room question.Output n = AllYes t cap × (some_line (names is_end) (lines_of t) ≡ true) × (lost_from t (text_labels t) 1 (lines_of t) ≡ None) × (room_for (standing_on (lines_of t)) room ≡ false) × (n ≡ 0)
+FirstOfAll t cap room question.Defined n = AllYes t cap × (some_line (names is_end) (lines_of t) ≡ true) × (lost_from (name_in t) (text_labels t) 1 (lines_of t) ≡ Some n)
+FirstOfAll t cap room question.Output n = AllYes t cap × (some_line (names is_end) (lines_of t) ≡ true) × (lost_from (name_in t) (text_labels t) 1 (lines_of t) ≡ None) × (room_for (standing_on (lines_of t)) room ≡ false) × (n ≡ 0)
 
 -- an answer is a refusal by a question and a line exactly where that question is the first of all with a no, on that line
 abbrev pub ExactlyFirstOfAll : List ℕ → ℕ → ℕ → Result Summary Refusal → Type 0
-ExactlyFirstOfAll t cap room r = (q : Question) (n : ℕ) → (r ≡ Err (record { question = q; origin = record { line = n } }) → FirstOfAll t cap room q n) × (FirstOfAll t cap room q n → r ≡ Err (record { question = q; origin = record { line = n } }))
+ExactlyFirstOfAll t cap room r = (q : Question) (n : ℕ) → (r ≡ Err (refusal_at q n) → FirstOfAll t cap room q n) × (FirstOfAll t cap room q n → r ≡ Err (refusal_at q n))

@@ -4,7 +4,7 @@ ghost use Rattle.std.specs.Prelude.{◌≡◌, length, take, IfOk, Ok};
 ghost use Rattle.bounded.specs.Held.{entries, room, KeepsRest};
 ghost use Rattle.executable.specs.Check.{contents, checked};
 ghost use Rattle.assembler.specs.Assembled.{assembled, answer_of, output_of};
-ghost use Rattle.builder.specs.Built.{text_parts, numbers_of, summary_of, labels_left};
+ghost use Rattle.builder.specs.Built.{text_parts, text_summary, numbers_of, summary_of, labels_left, labels_with, output_with};
 ghost use Rattle.builder.specs.Standing.{ExactlyFirstOfAll};
 
 use crate::summary::Summary;
@@ -29,9 +29,9 @@ fn summarize(size: usize, executable: Executable<'_>) -> Summary
 }
 
 /// Assembles a text, and tells the numbers of the executable. What is written is always accepted by the check, and its
-/// parts are what the lines of the text say; the labels left are those of the lines before the refused one, or all. A
-/// text is refused exactly by the first question with a no, where each line is asked by what stands on the lines before
-/// it.
+/// parts are what the lines of the text say. After a 1 no label is left, after 2 to 10 those of the lines above the refused
+/// one, and else all. A text is refused exactly by the first question with a no, where each line is asked by what stands
+/// on the lines before it.
 pub fn build(
     text: &[u8],
     labels: &mut BoundedList<Label>,
@@ -41,6 +41,9 @@ pub fn build(
     ensures labels { entries labels.new ≡ labels_left text.now (answer_of (assembled text.now (room labels.old) (length out.old))) }
     ensures output { out.new ≡ output_of (assembled text.now (room labels.old) (length out.old)) out.old }
     ensures accepted { IfOk result (λ s. checked (take s.length out.new) ≡ Ok (text_parts text.now)) }
+    ensures numbers { IfOk result (λ s. s ≡ text_summary text.now) }
+    ensures left { entries labels.new ≡ labels_with text.now result }
+    ensures written { out.new ≡ output_with text.now result out.old }
     ensures rest { KeepsRest labels.old labels.new }
     ensures first { ExactlyFirstOfAll text.now (room labels.old) (length out.old) result }
 {

@@ -45,7 +45,7 @@ minus_one = fin true 1 (pos 0)
 abbrev pub two_to_32 : Float
 two_to_32 = fin false 1 (pos 32)
 
--- 37: is the double above -1 and below 2^32? What is not a number is neither
+-- 37: does a double lie between -1 and 2^32, so that without its fraction it is a number of 32 bits? What is not a number does not
 abbrev pub fits_word : ℕ → Bool
 fits_word a = Ieee.lt minus_one (value a) && Ieee.lt (value a) two_to_32
 

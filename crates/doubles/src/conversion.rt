@@ -12,7 +12,7 @@ pub fn from_word(number: u32) -> u64
     f64_to_bits_with_nan(f64::from(number))
 }
 
-/// 37: is the double above -1 and below 4,294,967,296?
+/// 37: without its fraction, the double is no number of 32 bits.
 #[derive(Clone, Copy)]
 pub struct OutOfRange;
 

@@ -1,7 +1,6 @@
 -- The check: the parts of an executable, or the refusal of the first question with a no.
 use Rattle.std.specs.Prelude.{◌≡◌, ℕ, ◌+◌, ◌<◌, Bool, true, false, cond, List, take, drop, Ok, Err, Result}
-use Rattle.executable.specs.Numbers.{number_of}
-use Rattle.executable.specs.Questions.{code_size, first_instruction, stack_pointer, long_enough, marked, right_processor, zero_filler, right_sizes, right_length, right_addresses, asked}
+use Rattle.executable.specs.Questions.{code_size, first_instruction, stack_pointer, long_enough, marked, right_processor, zero_filler, right_sizes, right_length, right_addresses, asked, rank_of}
 use Rattle.executable.specs.declared.parts.Executable.{Executable}
 use Rattle.executable.specs.declared.refusal.Refusal.{Refusal}
 use Rattle.executable.specs.declared.refusal.Refusal.TheVariants.{TooShort, NoMark, OtherProcessor, FillerNotZero, BadSizes, OtherLength, AddressTooLarge}
@@ -42,7 +41,7 @@ checked bs =
     (ask (right_addresses bs) AddressTooLarge
     (Ok (parts_in bs))))))))
 
--- accepted bytes get a yes to every question; a refusal's own question gets a no, and each with a smaller number a yes
+-- accepted bytes get a yes to every question; a refusal's own question gets a no, and each that is asked before it a yes
 abbrev pub OnlyFirstNo : List ℕ → Result Parts Refusal → Type 0
 OnlyFirstNo bs (Ok p) = (q : Refusal) → asked q bs ≡ true
-OnlyFirstNo bs (Err q) = (asked q bs ≡ false) × ((p : Refusal) → number_of p < number_of q → asked p bs ≡ true)
+OnlyFirstNo bs (Err q) = (asked q bs ≡ false) × ((p : Refusal) → rank_of p < rank_of q → asked p bs ≡ true)

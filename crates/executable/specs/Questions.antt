@@ -71,3 +71,13 @@ asked FillerNotZero bs = zero_filler bs
 asked BadSizes bs = right_sizes bs
 asked OtherLength bs = right_length bs
 asked AddressTooLarge bs = right_addresses bs
+
+-- the place of each question in the order of asking
+abbrev pub rank_of : Refusal → ℕ
+rank_of TooShort = 0
+rank_of NoMark = 1
+rank_of OtherProcessor = 2
+rank_of FillerNotZero = 3
+rank_of BadSizes = 4
+rank_of OtherLength = 5
+rank_of AddressTooLarge = 6

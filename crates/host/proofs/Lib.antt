@@ -1,4 +1,4 @@
 pub mod Appends
 pub mod Pushes
-pub mod SheetForms
+pub mod TapeFirsts
 pub mod Transcripts

@@ -2,6 +2,7 @@
 use Rattle.std.proofs.Common.{◌≡◌, ℕ, ◌+◌, ◌-◌, ◌<◌, ◌≤◌, List, [], ◌∷◌, ◌++◌, length, get_or, take, drop, sym, ap, ◌∙◌, arith}
 use Rattle.std.proofs.lemmas.Bool.{lt-ltb, cond-true}
 use Rattle.std.proofs.lemmas.List.{take_more, drop-drop}
+use Rattle.bounded.specs.declared.list.BoundedList.{BoundedList}
 use Rattle.host.specs.declared.item.Item.{Item}
 use Rattle.host.specs.declared.item.Item.TheVariants.{Number}
 use Rattle.host.specs.Codes.{Code}
@@ -14,8 +15,8 @@ written_more m xs i here left so_far =
     cond-true _ _ _ (lt-ltb 0 m.left left) ∙ ap (λ (ys : List Item). ys ++ get_or xs i (Number 0) ∷ []) so_far ∙ sym (take_more xs i (Number 0) here)
 
 -- and the place goes past its units
-pub place_more : {X : Type 0} (c : Code X) (left place : ℕ) (x : Item) → 0 < left → place_after c left place x ≡ place + length (c.coded x)
-place_more c left place x h = cond-true _ _ _ (lt-ltb 0 left h)
+pub place_more : {X : Type 0} (c : Code X) (left : ℕ) (x : Item) (l : BoundedList X) → 0 < left → place_after c left x l ≡ l.len + length (c.coded x)
+place_more c left x l h = cond-true _ _ _ (lt-ltb 0 left h)
 
 -- lists that are the same past a place are so past a later one
 pub drop_later : {X : Type 0} (xs ys : List X) (at later : ℕ) → at ≤ later → drop at xs ≡ drop at ys → drop later xs ≡ drop later ys

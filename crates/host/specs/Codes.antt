@@ -1,10 +1,6 @@
 -- Codes: items written in units of some kind.
-use Rattle.std.specs.Prelude.{◌≡◌, ◌≢◌, ℕ, ◌+◌, ◌≤◌, Bool, true, false, List, [], ◌∷◌, ◌++◌, length, All, Ok, Result}
+use Rattle.std.specs.Prelude.{◌≡◌, ◌≢◌, ℕ, ◌≤◌, Bool, true, false, List, [], ◌∷◌, ◌++◌, length, All}
 use Rattle.std.specs.List.{flat_map}
-use Rattle.std.proofs.lemmas.List.Edits.{sets}
-use Rattle.bounded.specs.Held.{room}
-use Rattle.bounded.specs.declared.list.BoundedList.{BoundedList}
-use Rattle.bounded.specs.declared.list.Full.{Full}
 use Rattle.host.specs.declared.item.Item.{Item}
 use Rattle.host.specs.Ranges.{InRange}
 
@@ -50,13 +46,3 @@ pub record CodeLaws {X : Type 0} (c : Code X) (most : ℕ) : Type 0 where
   pub coded : (x : Item) → InRange x → ReadsAs c (c.coded x) (x ∷ [])
   pub short : (x : Item) → length (c.coded x) ≤ most
   pub parted : (us : List X) → All (λ u. c.is_unit u ≡ true) us → Parted c us
-
--- units that were pushed to a list: they stand behind its entries, and of the lent items only those are written
-pub record Pushed {X : Type 0} (before : BoundedList X) (us : List X) (after : BoundedList X) (result : Result Unit Full) : Type 0 where
-  pub answer : result ≡ Ok tt
-  pub items : after.items.now ≡ sets before.items.now before.len us
-  pub len : after.len ≡ before.len + length us
-
--- units that were pushed to a list where it has room for them
-abbrev pub PushedIfRoom : {X : Type 0} → BoundedList X → List X → BoundedList X → Result Unit Full → Type 0
-PushedIfRoom before us after result = before.len + length us ≤ room before → Pushed before us after result

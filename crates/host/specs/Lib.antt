@@ -5,6 +5,7 @@ pub mod Lent
 pub mod LentMeaning
 pub mod Meaning
 pub mod Numbers
+pub mod Pushed
 pub mod Questions
 pub mod Ranges
 pub mod Rooms

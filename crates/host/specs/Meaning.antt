@@ -7,7 +7,7 @@ use Rattle.host.specs.declared.item.Kind.TheVariants as kind
 use Rattle.host.specs.declared.refusal.Refusal.{Refusal}
 use Rattle.host.specs.declared.refusal.Refusal.TheVariants.{NothingWaits, SpoiledEnd, OtherKind, NoWriteLeft}
 
--- the items that wait, whether they end spoiled (and else clean), the items written in their order, and the writes left
+-- what can still be got, whether something unreadable comes behind that, what was written from the first item to the last, and the number of writes to come
 pub record Meaning : Type 0 where
   pub waiting : List Item
   pub spoiled : Bool

@@ -1,11 +1,10 @@
 -- The questions that getting and writing ask of a host.
-use Rattle.std.specs.Prelude.{◌≡◌, ◌<◌, Bool, true, false, ◌||◌, List, [], ◌∷◌, Ok, Err, Result, nat_lt}
+use Rattle.std.specs.Prelude.{◌≡◌, ℕ, ◌<◌, Bool, true, false, ◌||◌, List, [], ◌∷◌, Ok, Err, Result, nat_lt}
 use Rattle.host.specs.declared.item.Item.{Item}
 use Rattle.host.specs.declared.item.Kind.{Kind}
 use Rattle.host.specs.declared.refusal.Refusal.{Refusal}
 use Rattle.host.specs.declared.refusal.Refusal.TheVariants.{NothingWaits, SpoiledEnd, OtherKind, NoWriteLeft}
 use Rattle.host.specs.Meaning.{Meaning, is_kind}
-use Rattle.host.specs.Numbers.{number_of}
 
 -- whether an item waits
 abbrev pub waits : List Item → Bool
@@ -24,12 +23,19 @@ asked SpoiledEnd k m = waits m.waiting
 asked OtherKind k m = first_is k m.waiting
 asked NoWriteLeft k m = true
 
--- an item is answered where every question gets a yes; a refusal's own question gets a no, and each with a smaller number a yes
+-- the place of each question in the order of asking
+abbrev pub rank_of : Refusal → ℕ
+rank_of NothingWaits = 0
+rank_of SpoiledEnd = 1
+rank_of OtherKind = 2
+rank_of NoWriteLeft = 3
+
+-- an item is answered where every question gets a yes; a refusal's own question gets a no, and each that is asked before it a yes
 abbrev pub OnlyFirstNo : Kind → Meaning → Result Item Refusal → Type 0
 OnlyFirstNo k m (Ok x) = (q : Refusal) → asked q k m ≡ true
-OnlyFirstNo k m (Err q) = (asked q k m ≡ false) × ((p : Refusal) → number_of p < number_of q → asked p k m ≡ true)
+OnlyFirstNo k m (Err q) = (asked q k m ≡ false) × ((p : Refusal) → rank_of p < rank_of q → asked p k m ≡ true)
 
--- 45: is a write left?
+-- 45: may one more item be written?
 abbrev pub write_left : Meaning → Bool
 write_left m = nat_lt 0 m.left
 

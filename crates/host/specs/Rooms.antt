@@ -1,8 +1,8 @@
--- 46: the writes that are asked for, and the room for them.
+-- 46: are 65,536 writes or fewer asked for, with room for so many units for each?
 use Rattle.std.specs.Prelude.{ℕ, ◌*◌, Bool, cond, ◌&&◌, Ok, Err, Result, nat_le}
 use Rattle.host.specs.declared.room.NoRoom.{NoRoom}
 
--- 46: are the writes at most 65,536, and has the output so much for each of them?
+-- 46: are 65,536 writes or fewer asked for, with room for so many units for each?
 abbrev pub room_for : ℕ → ℕ → ℕ → Bool
 room_for each room writes = nat_le writes 65536 && nat_le (each * writes) room
 

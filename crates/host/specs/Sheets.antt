@@ -12,7 +12,7 @@ use Rattle.host.specs.Codes.{Code}
 abbrev pub within : ℕ → (ℕ → Item) → ℕ → Option Item
 within bound make n = cond (nat_lt n bound) (Some (make n)) None
 
--- the item of a record; none for another kind or a value too large
+-- the item of a record; none where no item is written so
 abbrev pub item_of : Record → Option Item
 item_of r =
     cond (r.kind == 1) (within (2 ^ 32) Number r.value)

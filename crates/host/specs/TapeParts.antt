@@ -42,7 +42,7 @@ coded_by c bs t false true h en er eh w = coded_known c 0x44 bs er (λ l. ap (λ
 coded_by c bs t false false true en er eh w = coded_known c 0x43 bs eh (λ l. ap (λ x. 0x43 ∷ x) (operand_back 1 bs t l))
 coded_by c bs t false false false en er eh w = absurd (true≢false (sym (rw (en, er, eh) at w)))
 
-coded_back : (c : ℕ) (bs : List ℕ) → Bytes bs → whole c bs ≡ true → coded (item_of c (take (size c) bs)) ≡ c ∷ take (size c) bs
+pub coded_back : (c : ℕ) (bs : List ℕ) → Bytes bs → whole c bs ≡ true → coded (item_of c (take (size c) bs)) ≡ c ∷ take (size c) bs
 coded_back c bs t w =
     coded_by c bs t (eqb c 0x4E) (eqb c 0x44) (eqb c 0x43) refl refl refl (and_parts (ltb 0 (size c)) (leb (size c) (length bs)) w).0 (whole_fits c bs w)
 

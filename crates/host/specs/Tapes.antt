@@ -35,7 +35,7 @@ items_from k [] = []
 items_from zero (c ∷ bs) = cond (whole c bs) (item_of c (take (size c) bs) ∷ items_from (size c) bs) []
 items_from (suc k) (c ∷ bs) = items_from k bs
 
--- whether they come to what is no whole item: another byte, or a cut operand
+-- whether they come to what is no whole item
 abbrev pub spoiled_from : ℕ → List ℕ → Bool
 spoiled_from k [] = false
 spoiled_from zero (c ∷ bs) = cond (whole c bs) (spoiled_from (size c) bs) true

@@ -7,8 +7,9 @@ ghost use Rattle.host.specs.Questions.{OnlyFirstNo, OnlyNoWriteLeft};
 use crate::item::{Item, Kind};
 use crate::refusal::Refusal;
 
-/// A host. Its meaning is four things: the items that wait, whether they end clean or spoiled, the items written, and
-/// how many writes are left. Whoever shows that the two calls do to that meaning what is defined has written a host.
+/// A host. All that counts of it is its `Meaning`, in four parts: what can still be got, the kind of end behind that,
+/// what was written so far, and the number of writes that it still takes. Whoever shows that the two calls do to that
+/// meaning what is defined has written a host.
 pub trait Host {
     ghost meaning: { Self → Meaning };
 

@@ -4,15 +4,15 @@ ghost use Rattle.std.specs.Prelude.{◌≡◌};
 ghost use Rattle.host.specs.Numbers.{number_of};
 
 /// The question about getting or writing an item that gets a no first.
-#[derive(Clone, Copy)]
+#[derive(Clone, Copy, PartialEq, Eq)]
 pub enum Refusal {
-    /// 42: does an item wait, or is the end spoiled?
+    /// 42: is anything left of the input, an item or a spoiled end?
     NothingWaits = 42,
-    /// 43: does an item wait before the spoiled end?
+    /// 43: does the rest of the input begin with an item?
     SpoiledEnd = 43,
-    /// 44: is the first item of the kind that is asked for?
+    /// 44: has the next item the kind that is asked for?
     OtherKind = 44,
-    /// 45: is a write left?
+    /// 45: may one more item be written?
     NoWriteLeft = 45,
 }
 

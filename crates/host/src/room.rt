@@ -5,7 +5,7 @@ ghost use Rattle.host.specs.Rooms.{room_for, room_answer};
 
 use crate::code_unit::CodeUnit;
 
-/// 46: are the writes at most 65,536, and has the output room for each?
+/// 46: are 65,536 writes or fewer asked for, with room for each?
 #[derive(Clone, Copy)]
 pub struct NoRoom;
 
@@ -23,7 +23,14 @@ impl NoRoom {
 pub fn ask_room<U: CodeUnit>(output: &[U], writes: usize) -> Result<(), NoRoom>
     ensures { result ≡ room_answer (room_for U.MOST (length output.now) writes) }
 {
-    if writes <= 65_536 && usize::from(U::MOST) * writes <= output.len() {
+    ask_units::<U>(output.len(), writes)
+}
+
+/// Question 46 of so many units.
+pub(crate) fn ask_units<U: CodeUnit>(units: usize, writes: usize) -> Result<(), NoRoom>
+    ensures { result ≡ room_answer (room_for U.MOST units writes) }
+{
+    if writes <= 65_536 && usize::from(U::MOST) * writes <= units {
         Ok(())
     } else {
         Err(NoRoom)

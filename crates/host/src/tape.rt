@@ -1,7 +1,7 @@
 //! The tape host: items as bytes.
 
 ghost use Rattle.std.specs.Prelude.{◌≡◌, ◌∷◌};
-ghost use Rattle.host.specs.Codes.{PushedIfRoom};
+ghost use Rattle.host.specs.Pushed.{push_answer, items_pushed, length_pushed};
 ghost use Rattle.host.specs.Tapes.{first_on, tape_code};
 ghost use Rattle.host.specs.TapeLaws.{tape_laws};
 
@@ -54,11 +54,17 @@ fn read_first(bytes: &[u8]) -> Result<Found, Refusal>
     Ok(Found { item, units })
 }
 
-/// Appends a command and its operand to a list, where it has room for them.
+/// Appends a command and its operand to a list, or refuses where it has no room for both and changes nothing.
 fn push_command(command: u8, operand: &[u8], list: &mut BoundedList<'_, u8>) -> Result<(), Full>
-    ensures pushed { PushedIfRoom list.old (command ∷ operand.now) list.new result }
+    ensures value { result ≡ push_answer (command ∷ operand.now) list.old }
+    ensures items { list.new.items.now ≡ items_pushed (command ∷ operand.now) list.old }
+    ensures count { list.new.len ≡ length_pushed (command ∷ operand.now) list.old }
     ensures lender { list.new.items.ghost_name ≡ list.old.items.ghost_name }
 {
+    let free = list.capacity() - list.len();
+    if operand.len() >= free {
+        return Err(Full);
+    }
     list.push(command)?;
     for byte in operand {
         list.push(*byte)?;

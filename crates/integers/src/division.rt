@@ -3,7 +3,7 @@
 ghost use Rattle.std.specs.Prelude.{◌≡◌, ◌+◌, ◌*◌, ◌<◌, IfOk};
 ghost use Rattle.integers.specs.Division.{divided};
 
-/// 36: does the quotient fit? A zero divisor has no quotient that fits.
+/// 36: is there a quotient that one register can hold? With a divisor of zero there is none.
 #[derive(Clone, Copy)]
 pub struct NoFit;
 

@@ -50,14 +50,14 @@ not_made bs e (Ok v) back err = absurd err
 not_made bs e (Err m) back err = subst (λ m. Again bs (Err m)) (sym err) (refused bs e back)
 
 -- the units of items that are written stand first in the output
-written_first : (b : Bool) (n : ℕ) (us old new : List ℕ) → Ok n ≡ length_answer b us → new ≡ output_with b us old → take n new ≡ us
+written_first : (b : Bool) (n : ℕ) (us old new : List ℕ) → Ok n ≡ length_answer b us → new ≡ output_with true us old → take n new ≡ us
 written_first false n us old new answer stored = cc
 written_first true n us old new answer stored =
     let long : n ≡ length us = cc in
     ap (λ k. take k new) long ∙ ap (take (length us)) stored ∙ take-append_seam us (drop (length us) old)
 
 -- an output that is cut behind them is the tape whose items they are
-pub made_again : (bs : List ℕ) (xs : List Item) (b : Bool) (n most : ℕ) (old new rest made : List ℕ) → All (λ b. b < 256) bs → spoiled bs ≡ false → xs ≡ items bs → Ok n ≡ length_answer b (all_coded tape_code xs) → new ≡ output_with b (all_coded tape_code xs) old → length new ≡ most → made ≡ take n (take most (new ++ rest)) → made ≡ bs
+pub made_again : (bs : List ℕ) (xs : List Item) (b : Bool) (n most : ℕ) (old new rest made : List ℕ) → All (λ b. b < 256) bs → spoiled bs ≡ false → xs ≡ items bs → Ok n ≡ length_answer b (all_coded tape_code xs) → new ≡ output_with true (all_coded tape_code xs) old → length new ≡ most → made ≡ take n (take most (new ++ rest)) → made ≡ bs
 made_again bs xs b n most old new rest made bytes clean same answer stored long cut =
     let whole : take most (new ++ rest) ≡ new = ap (λ k. take k (new ++ rest)) (sym long) ∙ take-append_seam new rest in
     cut ∙ ap (take n) whole ∙ written_first b n (all_coded tape_code xs) old new answer stored ∙ ap (all_coded tape_code) same ∙ clean_tape bs bytes clean

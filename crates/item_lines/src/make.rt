@@ -18,7 +18,7 @@ const MOST: usize = 65_536;
 pub enum MakeError {
     /// The line with this number, counted from 1, is no item's.
     Line(usize),
-    /// 46: are there at most 65,536 items?
+    /// 46: are there 65,536 items or fewer?
     TooMany,
     /// There is no memory.
     Memory,

@@ -1,7 +1,6 @@
 //! What is on a tape.
 
-ghost use Rattle.std.specs.Prelude.{◌≡◌, IfOk, length};
-ghost use Rattle.host.specs.Tapes.{coded};
+ghost use Rattle.std.specs.Prelude.{IfOk};
 ghost use Rattle.item_lines.specs.Tapes.{HasContents};
 
 use host::code_unit::CodeUnit;
@@ -16,17 +15,6 @@ pub struct Contents {
     pub spoiled: Option<usize>,
 }
 
-/// How many bytes an item takes on a tape.
-fn coded_len(item: Item) -> usize
-    ensures { result ≡ length (coded item) }
-{
-    match item {
-        Item::Number(_) => 5,
-        Item::Real(_) => 9,
-        Item::Character(_) => 2,
-    }
-}
-
 /// What is on a tape.
 pub fn read_tape(heap: Global, tape: &[u8]) -> Result<Contents, AllocError>
     ensures { IfOk result (λ c. HasContents tape.now c) }
@@ -38,7 +26,7 @@ pub fn read_tape(heap: Global, tape: &[u8]) -> Result<Contents, AllocError>
         match u8::first_of(rest) {
             Ok(found) => {
                 items.push(found.item).map_err(AllocError::from)?;
-                place += coded_len(found.item);
+                place += found.units;
                 rest = &rest[found.units..];
             }
             Err(Refusal::SpoiledEnd) => {

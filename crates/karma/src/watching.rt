@@ -1,5 +1,7 @@
 //! Telling how far a run is.
 
+ghost use Rattle.std.specs.Prelude.{◌≡◌};
+
 use play::play::count_items;
 use play::watch::{Progress, Watch};
 
@@ -28,6 +30,8 @@ impl<'a> Teller<'a> {
 }
 
 impl<'a> Watch for Teller<'a> {
+    ghost hears = { λ before _ after. after ≡ before };
+
     fn tell(&mut self, progress: Progress<'_>) {
         if !self.quiet && progress.steps >= LONG {
             // the run goes on where nobody reads this

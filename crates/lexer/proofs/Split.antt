@@ -8,7 +8,7 @@ use Rattle.std.specs.List.{before_first, position_or_len}
 use Rattle.std.specs.Slice.{IsGetRangeResult}
 use Rattle.lexer.specs.Cursor.{lines_left}
 use Rattle.lexer.specs.Parts.{WordFirst}
-use Rattle.lexer.specs.Text.{on_first, lines_of, blank, blanks, onward, spelled, word_left, before, numbered}
+use Rattle.lexer.specs.Text.{on_first, lines_of, blank, blanks, onward, spelled, word_left, before, numbered, CodeLine, code_of}
 use Rattle.lexer.specs.Text.{first_line as first_told_line}
 
 pub by_bool : {P : Type 0} (t : Bool) → (t ≡ true → P) → (t ≡ false → P) → P
@@ -110,8 +110,11 @@ next_line rest line (Some left) is (got, some) =
     rw (past, is) one
 
 -- the same with numbers and places
-pub next_numbered : (n p : ℕ) (lines more : List (List ℕ)) (line code : List ℕ) → lines ≡ line ∷ more → code ≡ before 35 line → numbered n p lines ≡ (n, p, code) ∷ numbered (n + 1) (p + (length line + 1)) more
-next_numbered n p lines more line code is code_is = ap (numbered n p) is ∙ ap (λ c. (n, p, c) ∷ numbered (n + 1) (p + length line + 1) more) (sym code_is) ∙ ap (λ q. (n, p, code) ∷ numbered (n + 1) q more) (let e : p + length line + 1 ≡ p + (length line + 1) = omega arith in e)
+abbrev pub coded : ℕ → ℕ → List ℕ → CodeLine
+coded n p code = record { number = n; place = p; code = code }
 
-pub next_told : (n p : ℕ) (lines more : List (List ℕ)) (line code : List ℕ) → lines ≡ line ∷ more → code ≡ before 35 line → ◌≡◌ {A = Option (ℕ × ℕ × List ℕ)} (Some (n, p, code)) (first_told_line n p lines)
-next_told n p lines more line code is code_is = ap (λ c. Some (n, p, c)) code_is ∙ sym (ap (first_told_line n p) is)
+pub next_numbered : (n p : ℕ) (lines more : List (List ℕ)) (line code : List ℕ) → lines ≡ line ∷ more → code ≡ code_of line → numbered n p lines ≡ coded n p code ∷ numbered (n + 1) (p + (length line + 1)) more
+next_numbered n p lines more line code is code_is = ap (numbered n p) is ∙ ap (λ c. coded n p c ∷ numbered (n + 1) (p + length line + 1) more) (sym code_is) ∙ ap (λ q. coded n p code ∷ numbered (n + 1) q more) (let e : p + length line + 1 ≡ p + (length line + 1) = omega arith in e)
+
+pub next_told : (n p : ℕ) (lines more : List (List ℕ)) (line code : List ℕ) → lines ≡ line ∷ more → code ≡ code_of line → ◌≡◌ {A = Option CodeLine} (Some (coded n p code)) (first_told_line n p lines)
+next_told n p lines more line code is code_is = ap (λ c. Some (coded n p c)) code_is ∙ sym (ap (first_told_line n p) is)

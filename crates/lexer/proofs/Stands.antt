@@ -6,9 +6,9 @@ use Rattle.std.proofs.lemmas.List.Elements.{All-cons}
 use Rattle.lexer.specs.declared.inside.Inside.TheVariants.{Gap, Plain, Quoted, Taken}
 use Rattle.lexer.specs.Divided.{rejoined}
 use Rattle.lexer.specs.Parts.{StandsAt, WordFirst}
-use Rattle.lexer.specs.Shown.{Shown, bytes_of, kind_of, digit, register_number}
+use Rattle.lexer.specs.Shown.{Shown, bytes_of, kind_of, digit, register_number, told_words}
 use Rattle.lexer.specs.Shown.Shown.{name, register, number, string}
-use Rattle.lexer.specs.Text.{on_first, lines_of, numbered, before, blank, blanks, onward, spelled, word_left}
+use Rattle.lexer.specs.Text.{on_first, lines_of, numbered, code_of, CodeLine, code_line, blank, blanks, onward, spelled, word_left}
 use Rattle.lexer.proofs.Split.{by_bool, all_blanks, before_is}
 use Rattle.lexer.proofs.Divides.{lined}
 
@@ -49,6 +49,16 @@ past_first p k code word rest f =
     let some : blanks code < length code = omega (arith, f.some, f.skipped) in
     sym (cond-true _ _ _ (lt-ltb _ _ some) ∙ ap (λ i. p + i + word_left Gap (drop i code)) (sym f.skipped) ∙ ap (λ n. p + k + n) (sym f.long))
 
+-- and the words that are told are the first and those that are told of what follows it
+pub told_first : (n p k : ℕ) (code word rest : List ℕ) → WordFirst code k word rest → told_words n p code (spelled Gap code) ≡ (n, p + k, kind_of word) ∷ told_words n (p + k + length word) rest (spelled Gap rest)
+told_first n p k code word rest f =
+    let long : length (take k code) ≡ k = length-take-le k code (omega (arith, f.some)) in
+    let front : drop k code ≡ word ++ rest = ap (drop k) f.whole ∙ drop_at (take k code) (word ++ rest) k long in
+    let left : drop (k + length word) code ≡ rest = sym (drop-drop (length word) k code) ∙ ap (drop (length word)) front ∙ drop_at word rest (length word) refl in
+    ap (told_words n p code) f.words
+    ∙ ap (λ i. (n, p + i, kind_of word) ∷ told_words n (p + i + length word) (drop (i + length word) code) (spelled Gap rest)) (sym f.skipped)
+    ∙ ap (λ l. (n, p + k, kind_of word) ∷ told_words n (p + k + length word) l (spelled Gap rest)) left
+
 pub past_none : (p : ℕ) (code : List ℕ) → spelled Gap code ≡ [] → past p code ≡ p
 past_none p code e = cond-false _ _ _ (le-ltb _ _ (all_blanks code e))
 
@@ -82,24 +92,24 @@ few_each (b ∷ bs) =
 pub few_words : (bs : List ℕ) → length (spelled Gap bs) ≤ length bs
 few_words bs = (few_each bs).0
 
-code_stands : (text : List ℕ) (p : ℕ) (l : List ℕ) → StandsAt text p l → StandsAt text p (before 35 l)
+code_stands : (text : List ℕ) (p : ℕ) (l : List ℕ) → StandsAt text p l → StandsAt text p (code_of l)
 code_stands text p l s = rw before_is (front_stands text p _ l s)
 
 -- what stands before the comment of each line of a text stands at the line's place
 -- a line stands in a text
-abbrev pub Stand : List ℕ → ℕ × ℕ × List ℕ → Type 0
-Stand text l = StandsAt text l.1 l.2
+abbrev pub Stand : List ℕ → CodeLine → Type 0
+Stand text l = StandsAt text l.place l.code
 
 lines_from : (text : List ℕ) (n p : ℕ) (ls : List (List ℕ)) → StandsAt text p (rejoined ls) → All (Stand text) (numbered n p ls)
 lines_from text n p [] s = λ k d h. absurd (omega arith)
 lines_from text n p (l ∷ []) s =
     let none : All (Stand text) [] = λ k d h. absurd (omega arith) in
-    All-cons (Stand text) (n, p, before 35 l) [] (code_stands text p l s) none
+    All-cons (Stand text) (code_line n p l) [] (code_stands text p l s) none
 lines_from text n p (l ∷ m ∷ ls) s =
     let more = rejoined (m ∷ ls) in
     let e : p + length (l ++ 10 ∷ []) ≡ p + length l + 1 = omega (arith, length-append l (10 ∷ [])) in
     let after : StandsAt text (p + length l + 1) more = subst (λ q. StandsAt text q more) e (last_stands text p (l ++ 10 ∷ []) more (subst (StandsAt text p) (sym (append_assoc l (10 ∷ []) more)) s)) in
-    All-cons (Stand text) (n, p, before 35 l) (numbered (n + 1) (p + length l + 1) (m ∷ ls)) (code_stands text p l (first_stands text p l (10 ∷ more) s)) (lines_from text (n + 1) (p + length l + 1) (m ∷ ls) after)
+    All-cons (Stand text) (code_line n p l) (numbered (n + 1) (p + length l + 1) (m ∷ ls)) (code_stands text p l (first_stands text p l (10 ∷ more) s)) (lines_from text (n + 1) (p + length l + 1) (m ∷ ls) after)
 
-pub lines_stand : (text : List ℕ) → All (λ l. StandsAt text l.1 l.2) (numbered 1 0 (lines_of text))
+pub lines_stand : (text : List ℕ) → All (λ l. StandsAt text l.place l.code) (numbered 1 0 (lines_of text))
 lines_stand text = lines_from text 1 0 (lines_of text) (subst (StandsAt text 0) (sym (lined text).whole) (record { within = omega arith; same = take_all (length text) text (omega arith) }))

@@ -1,8 +1,9 @@
 -- What kind of word a word is, and what a word of the lexer shows of the text.
-use Rattle.std.specs.Prelude.{ℕ, ◌-◌, Bool, cond, ◌&&◌, ◌||◌, List, [], ◌∷◌, length, take, is_some, Some, None, Option, ◌==◌, nat_le, slice_index}
+use Rattle.std.specs.Prelude.{ℕ, ◌+◌, ◌-◌, Bool, cond, ◌&&◌, ◌||◌, List, [], ◌∷◌, length, take, is_some, Some, None, Option, drop, ◌==◌, nat_le, slice_index}
 use Rattle.lexer.specs.declared.word.Token.{Token}
 use Rattle.lexer.specs.declared.word.Word.{Word}
-use Rattle.lexer.specs.declared.word.Word.TheVariants.{Label, Name, Register, Number, Text}
+use Rattle.lexer.specs.Text.{blanks}
+use Rattle.lexer.specs.declared.word.Word.TheVariants.{Label, Name, Register, Number, String}
 
 -- a word by its kind and its bytes
 pub data Shown : Type 0 where
@@ -18,7 +19,7 @@ shown (Label s) = label s.now
 shown (Name s) = name s.now
 shown (Register s) = register s.now
 shown (Number s) = number s.now
-shown (Text s) = string s.now
+shown (String s) = string s.now
 
 -- a word of the lexer is a label
 abbrev pub IsLabel : Word → Type 0
@@ -26,7 +27,7 @@ IsLabel (Label s) = Unit {0}
 IsLabel (Name s) = ⊥
 IsLabel (Register s) = ⊥
 IsLabel (Number s) = ⊥
-IsLabel (Text s) = ⊥
+IsLabel (String s) = ⊥
 
 -- the bytes of a word of any kind: of a label, those before its colon
 abbrev pub bytes_of : Shown → List ℕ
@@ -82,3 +83,8 @@ first_told n fresh p (w ∷ ws) = Some (n, p, sorted fresh w)
 abbrev pub first_shown : Bool → List (List ℕ) → Option Shown
 first_shown fresh [] = None
 first_shown fresh (w ∷ ws) = Some (sorted fresh w)
+
+-- the words of some code on line n that begins at the place p, each with the line, its place past the blanks in front of it, and its kind
+abbrev pub told_words : ℕ → ℕ → List ℕ → List (List ℕ) → List (ℕ × ℕ × Shown)
+told_words n p code [] = []
+told_words n p code (w ∷ ws) = (n, p + blanks code, kind_of w) ∷ told_words n (p + blanks code + length w) (drop (blanks code + length w) code) ws

@@ -23,7 +23,7 @@ abbrev pub before : ℕ → List ℕ → List ℕ
 before c [] = []
 before c (b ∷ bs) = cond (b == c) [] (b ∷ before c bs)
 
--- words are parted by bytes 32 and 9
+-- the blanks between words: bytes 32 and 9
 abbrev pub blank : ℕ → Bool
 blank b = b == 32 || b == 9
 
@@ -60,13 +60,17 @@ abbrev pub spelled : Inside → List ℕ → List (List ℕ)
 spelled p [] = closed p
 spelled p (b ∷ bs) = cond (open? p && blank b) (parted p (spelled Gap bs)) (on_first b (spelled (onward p b) bs))
 
--- the words of what stands before a comment
+-- the words of some code
 abbrev pub code_words : List ℕ → List (List ℕ)
 code_words code = spelled Gap code
 
--- the words of a line: from a hash on, the rest is comment
+-- the code of a line: from a hash (35) on, the rest is comment
+abbrev pub code_of : List ℕ → List ℕ
+code_of line = before 35 line
+
+-- the words of a line
 abbrev pub words_of : List ℕ → List (List ℕ)
-words_of line = code_words (before 35 line)
+words_of line = code_words (code_of line)
 
 -- how many bytes of the word at a place are left
 abbrev pub word_left : Inside → List ℕ → ℕ
@@ -81,15 +85,25 @@ abbrev pub tail_of : List (List ℕ) → List (List ℕ)
 tail_of [] = []
 tail_of (w ∷ ws) = ws
 
--- the first of the lines as its number, its place and what stands before its comment
-abbrev pub first_line : ℕ → ℕ → List (List ℕ) → Option (ℕ × ℕ × List ℕ)
-first_line n p [] = None
-first_line n p (l ∷ ls) = Some (n, p, before 35 l)
+-- a line by its number, its place and its code
+pub record CodeLine : Type 0 where
+  pub number : ℕ
+  pub place : ℕ
+  pub code : List ℕ
 
--- lines, the first of them on line n and at the place p, each as its number, its place and what stands before its comment
-abbrev pub numbered : ℕ → ℕ → List (List ℕ) → List (ℕ × ℕ × List ℕ)
+-- line n, which begins at the place p
+abbrev pub code_line : ℕ → ℕ → List ℕ → CodeLine
+code_line n p l = record { number = n; place = p; code = code_of l }
+
+-- the first of the lines, on line n and at the place p
+abbrev pub first_line : ℕ → ℕ → List (List ℕ) → Option CodeLine
+first_line n p [] = None
+first_line n p (l ∷ ls) = Some (code_line n p l)
+
+-- lines, the first of them on line n and at the place p
+abbrev pub numbered : ℕ → ℕ → List (List ℕ) → List CodeLine
 numbered n p [] = []
-numbered n p (l ∷ ls) = (n, p, before 35 l) ∷ numbered (n + 1) (p + length l + 1) ls
+numbered n p (l ∷ ls) = code_line n p l ∷ numbered (n + 1) (p + length l + 1) ls
 
 -- where the next line begins
 abbrev pub next_at : ℕ → List (List ℕ) → ℕ

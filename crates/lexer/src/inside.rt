@@ -2,7 +2,7 @@
 
 ghost use Rattle.std.specs.Prelude.{◌≡◌, ◌≤◌, ◌&&◌, [], length, MatchOption};
 ghost use Rattle.lexer.specs.Parts.{WordFirst};
-ghost use Rattle.lexer.specs.Text.{before, spelled, blank, word_left, open?, onward};
+ghost use Rattle.lexer.specs.Text.{before, code_of, spelled, blank, word_left, open?, onward};
 
 /// Between words, in a word, in a quoted part, or right after a backslash in one.
 #[derive(Clone, Copy)]
@@ -48,6 +48,14 @@ pub(crate) fn before(s: &[u8], b: u8) -> &[u8]
 {
     let count = s.iter().position(|x| *x == b).unwrap_or(s.len());
     s.split_at(count).0
+}
+
+/// The code of a line: what stands before its comment.
+pub(crate) fn code_of(line: &[u8]) -> &[u8]
+    ensures value { result.now ≡ code_of line.now }
+    ensures within { length result.now ≤ length line.now }
+{
+    before(line, b'#')
 }
 
 /// How many bytes the word in front has.

@@ -12,10 +12,10 @@ pub enum Word<'a> {
     Name(&'a [u8]),
     /// r0 to r15.
     Register(&'a [u8]),
-    /// A word that begins with a digit or a minus.
+    /// A word whose first byte is a digit or a minus.
     Number(&'a [u8]),
-    /// A word that begins with a quote.
-    Text(&'a [u8]),
+    /// A word whose first byte is a quote.
+    String(&'a [u8]),
 }
 
 /// A word with its line and its place in the text.
@@ -42,7 +42,7 @@ pub(crate) fn kind_of<'a>(word: &'a [u8]) -> Word<'a>
     ensures { shown result ≡ kind_of word.now }
 {
     match word {
-        [b'"', ..] => Word::Text(word),
+        [b'"', ..] => Word::String(word),
         [b'0'..=b'9' | b'-', ..] => Word::Number(word),
         _ if register_number(word).is_some() => Word::Register(word),
         _ => Word::Name(word),

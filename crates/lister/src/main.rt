@@ -1,4 +1,4 @@
-//! Reads an executable from standard input and prints its listing, or the line `refused N`.
+//! Prints the listing of the executable on standard input, or `refused N` where its bytes are refused.
 
 #![tactic(auto)]
 

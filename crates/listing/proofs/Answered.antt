@@ -6,8 +6,7 @@ use Rattle.executable.specs.Questions as executable
 use Rattle.executable.specs.declared.refusal.Refusal as refused
 use Rattle.executable.specs.declared.refusal.Refusal.TheVariants.{TooShort, NoMark, OtherProcessor, FillerNotZero, BadSizes, OtherLength, AddressTooLarge}
 use Rattle.executable.proofs.Accepted.{accepted}
-use Rattle.listing.specs.Listing.{listing, room_for, listed_parts, listed, length_of, output_after, asked, OnlyFirstNo}
-use Rattle.listing.specs.Numbers.{number_of}
+use Rattle.listing.specs.Listing.{listing, room_for, listed_parts, listed, length_of, output_after, asked, rank_of, OnlyFirstNo}
 use Rattle.listing.specs.declared.refusal.Refusal.{Refusal}
 use Rattle.listing.specs.declared.refusal.Refusal.TheVariants.{Executable, OutputTooShort}
 use Rattle.output.specs.Overlay.{Wrote}
@@ -39,7 +38,7 @@ module _ (bs : List ℕ) (p : Parts) (is : Ok p ≡ checked bs) (each : (q : ref
         ap (λ x. room_for x room) (sym the_parts) ∙ t,
       )
 
-  earlier : (room : ℕ) (q : Refusal) → number_of q < 27 → asked q bs room ≡ true
+  earlier : (room : ℕ) (q : Refusal) → rank_of q < 7 → asked q bs room ≡ true
   earlier room (Executable q) h = each q
   earlier room OutputTooShort h = absurd (omega arith)
 

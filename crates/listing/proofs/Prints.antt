@@ -3,7 +3,6 @@ use Rattle.std.proofs.Common.{◌≡◌, ℕ, ◌<◌, ◌≤◌, true, false, L
 use Rattle.std.proofs.lemmas.List.{take_at}
 use Rattle.std.proofs.lemmas.Bool.{cond-true, cond-false, cond_both, le-leb, le-ltb, both_ways}
 use Rattle.executable.specs.Check.{Parts, parts_in, checked}
-use Rattle.executable.specs.Numbers as numbers
 use Rattle.executable.specs.Questions as executable
 use Rattle.executable.specs.declared.refusal.Refusal as refused
 use Rattle.executable.specs.declared.refusal.Refusal.TheVariants.{TooShort, NoMark, OtherProcessor, FillerNotZero, BadSizes, OtherLength, AddressTooLarge}
@@ -15,8 +14,8 @@ use Rattle.listing.specs.declared.refusal.Refusal.{Refusal}
 use Rattle.listing.specs.declared.refusal.Refusal.TheVariants.{Executable, OutputTooShort}
 use Rattle.listing.proofs.Room.{Bytes, listing_length}
 
-below_27 : (q : refused.Refusal) → numbers.number_of q < 27
-below_27 q = search rules
+asked_before : (q : refused.Refusal) → executable.rank_of q < 7
+asked_before q = search rules
 
 -- an input that is not too long is checked
 short_input : (bs : List ℕ) → length bs ≤ 8192 → taken bs ≡ checked bs
@@ -70,5 +69,5 @@ refused_page bs o (Err (Executable e)) typed h room v first =
     let is : Err e ≡ taken bs = sym (short_input bs h ∙ refusal_is (length o) (checked bs) e v) in
     (ap text_of is, ap is_refused (sym is))
 refused_page bs o (Err OutputTooShort) typed h room v first =
-    let own = λ (q : refused.Refusal). first.1 (Executable q) (below_27 q) in
+    let own = λ (q : refused.Refusal). first.1 (Executable q) (asked_before q) in
     absurd (both_ways (room_for (parts_in bs) (length o)) first.0 (fits_page bs (length o) own typed h room))

@@ -6,7 +6,6 @@ use Rattle.executable.specs.Check.{Parts, parts_in, ask, checked}
 use Rattle.executable.specs.Questions as executable
 use Rattle.executable.specs.declared.refusal.Refusal as refused
 use Rattle.listing.specs.Lines.{line_text, number_line, word_line}
-use Rattle.listing.specs.Numbers.{number_of}
 use Rattle.listing.specs.declared.refusal.Refusal.{Refusal}
 use Rattle.listing.specs.declared.refusal.Refusal.TheVariants.{Executable, OutputTooShort}
 use Rattle.executable.specs.declared.segment.Segment.TheVariants.{Code, Constants}
@@ -49,7 +48,12 @@ abbrev pub asked : Refusal → List ℕ → ℕ → Bool
 asked (Executable q) bs room = executable.asked q bs
 asked OutputTooShort bs room = room_for (parts_in bs) room
 
--- a listed executable gets a yes to every question; a refusal's own question gets a no, and each with a smaller number a yes
+-- the place of each question in the order of asking: 27 is asked after all questions of the check
+abbrev pub rank_of : Refusal → ℕ
+rank_of (Executable q) = executable.rank_of q
+rank_of OutputTooShort = 7
+
+-- a listed executable gets a yes to every question; a refusal's own question gets a no, and each that is asked before it a yes
 abbrev pub OnlyFirstNo : List ℕ → ℕ → Result ℕ Refusal → Type 0
 OnlyFirstNo bs room (Ok n) = (q : Refusal) → asked q bs room ≡ true
-OnlyFirstNo bs room (Err q) = (asked q bs room ≡ false) × ((p : Refusal) → number_of p < number_of q → asked p bs room ≡ true)
+OnlyFirstNo bs room (Err q) = (asked q bs room ≡ false) × ((p : Refusal) → rank_of p < rank_of q → asked p bs room ≡ true)

@@ -21,7 +21,7 @@ either n true x y h k = h
 either n false x y h k = k
 
 -- any system call, and none
-chosen : (f : Fetch) (b₀ b₁ b₂ b₃ b₄ b₅ b₆ : Bool) → InTurn 32 (cond b₀ (exit f) (cond b₁ (get_number f) (cond b₂ (get_real f) (cond b₃ (put_number f) (cond b₄ (put_real f) (cond b₅ (get_character f) (cond b₆ (put_character f) (fault SystemCall))))))))
+chosen : (f : Fetch) (b₀ b₁ b₂ b₃ b₄ b₅ b₆ : Bool) → InTurn 2 (cond b₀ (exit f) (cond b₁ (get_number f) (cond b₂ (get_real f) (cond b₃ (put_number f) (cond b₄ (put_real f) (cond b₅ (get_character f) (cond b₆ (put_character f) (fault SystemCall))))))))
 chosen f true b₁ b₂ b₃ b₄ b₅ b₆ = search rules
 chosen f false true b₂ b₃ b₄ b₅ b₆ = search rules
 chosen f false false true b₃ b₄ b₅ b₆ = search rules
@@ -32,11 +32,11 @@ chosen f false false false false false false true = search rules
 chosen f false false false false false false false = search rules
 
 -- the system call of a number
-called : (n : ℕ) (f : Fetch) → InTurn 32 (numbered_call n f)
+called : (n : ℕ) (f : Fetch) → InTurn 2 (numbered_call n f)
 called n f = chosen f (n == 0) (n == 100) (n == 101) (n == 102) (n == 103) (n == 104) (n == 105)
 
 -- every operation
-operated : (o : Operation) (f : Fetch) → InTurn 32 (act_of o f)
+operated : (o : Operation) (f : Fetch) → InTurn 2 (act_of o f)
 operated Halt f = tt
 operated CallSystem f = called (immediate_word f.word) f
 operated (Combine how Source) f = search rules
@@ -87,8 +87,8 @@ operated (Call Address) f = search rules
 operated CallAddress f = search rules
 operated Return f = search rules
 
--- a tree that may begin in the turn of 32 may begin in that of 30
-later : (a : Act) → InTurn 32 a → InTurn 30 a
+-- a tree in turn from the question of system calls on is in turn from the first question on
+later : (a : Act) → InTurn 2 a → InTurn 0 a
 later (fault q) h = omega (arith, h)
 later (ask q next) h = (omega (arith, h.0), h.1)
 later (get k next) h = (omega arith, h.1)
@@ -99,10 +99,10 @@ later (push a v next) h = (omega arith, h.1)
 later (done c t) h = tt
 
 -- every command
-with_code : (o : Option Opcode) (w : ℕ) (core : Core) → InTurn 30 (with_opcode o w core)
+with_code : (o : Option Opcode) (w : ℕ) (core : Core) → InTurn 0 (with_opcode o w core)
 with_code None w core = search rules
 with_code (Some o) w core = later _ (operated (operation_of o) _)
 
 -- a step asks its questions in turn
-pub steps_in_turn : (core : Core) (c : List ℕ) → InTurn 30 (step_act core c)
-steps_in_turn core c = either 30 (is_inside (length c) (in_register core 15)) _ _ (with_code (opcode_at (code_field (slice_index c (in_register core 15)))) _ _) (search rules)
+pub steps_in_turn : (core : Core) (c : List ℕ) → InTurn 0 (step_act core c)
+steps_in_turn core c = either 0 (is_inside (length c) (in_register core 15)) _ _ (with_code (opcode_at (code_field (slice_index c (in_register core 15)))) _ _) (search rules)

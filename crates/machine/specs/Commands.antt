@@ -1,5 +1,5 @@
 -- What each operation does: a tree of questions and effects, from the fetched word and the processor as it is after the fetch.
--- The order of questions is the same in all: 31 and 32 first, then 33 of all pairs, 34 of all registers, then 35 to 38; then the host is called; then 39 is asked of call's target; and last of each cell in the order touched 39, 40, and for a push 41.
+-- Every tree has its questions in one order (Turns.antt): whether there is the command or system call, then those of pairs, of registers, of values, of the host, and of call's target. Those of a cell come with the effect that touches it.
 -- Values are those of the registers as they are after the fetch, before any is written.
 use Rattle.std.specs.Prelude.{ℕ, ◌+◌, ◌-◌, ◌*◌, ◌/◌, ◌%◌, ◌^◌, Bool, cond, Some, None, Option, Ok, Err, Result, ◌==◌, nat_le, nat_lt, bit_and, bit_or, bit_xor}
 use Rattle.std.specs.declared.cmp.Ordering.{Ordering}
@@ -74,14 +74,14 @@ raised n = wrapped (n + 1)
 abbrev pub next : Core → Act
 next c = done c Next
 
--- 33: has each pair a next register?
+-- 33: is there a register after the first one of the pair?
 abbrev pub asks_first_pair : Fetch → Act → Act
 asks_first_pair f k = ask (holds (has_next (first f)) cause.Pair) k
 
 abbrev pub asks_source_pair : Fetch → Act → Act
 asks_source_pair f k = ask (holds (has_next (source f)) cause.Pair) k
 
--- 34: does the permit allow each named register what is done to it? Only what the word names is asked. What push, pop, calls, returns, jumps and the fetch do besides to r13, r14 and r15 is not
+-- 34: is a register open to what is done to it? Only those that the word names are asked. What push, pop, calls, returns, jumps and the fetch do besides to r13, r14 and r15 is not
 abbrev pub reads : ℕ → Act → Act
 reads r k = ask (register Reading r) k
 
@@ -131,7 +131,7 @@ abbrev pub shifted : Direction → ℕ → ℕ → ℕ
 shifted Left a b = wrapped (a * 2 ^ b)
 shifted Right a b = a / 2 ^ b
 
--- 35: is the shift at most 31?
+-- 35: is a shift by fewer than 32 bits asked for?
 abbrev pub shift_fits : ℕ → Bool
 shift_fits b = nat_le b 31
 

@@ -24,7 +24,7 @@ wrapped n = n % 2 ^ 32
 abbrev pub in_register : Core → ℕ → ℕ
 in_register c r = slice_index c.registers r
 
--- what a pair holds: a register and the next, low half first
+-- what a pair holds: the low half in its first register, the high half in the one after
 abbrev pub in_pair : Core → ℕ → ℕ
 in_pair c r = joined (in_register c r) (in_register c (r + 1))
 

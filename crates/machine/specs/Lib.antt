@@ -5,7 +5,9 @@ pub mod Flags
 pub mod Numbers
 pub mod Outcomes
 pub mod Pairs
+pub mod Returns
 pub mod Rules
+pub mod Sequences
 pub mod Step
 pub mod Table
 pub mod Turns

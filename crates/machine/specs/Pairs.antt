@@ -4,7 +4,7 @@ use Rattle.machine.specs.declared.cause.Cause.{Cause}
 use Rattle.machine.specs.declared.cause.Cause.TheVariants as cause
 use Rattle.machine.specs.declared.pair.Pair.{Pair}
 
--- 33: has a register a next one?
+-- 33: is there a register after one?
 abbrev pub has_next : ℕ → Bool
 has_next r = nat_lt r 15
 

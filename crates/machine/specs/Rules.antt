@@ -24,11 +24,11 @@ abbrev pub allows : Access → ℕ → Bool
 allows Reading level = may_read level
 allows Writing level = may_write level
 
--- 34: does the permit allow the access to a register?
+-- 34: is a register open to an access?
 abbrev pub allows_register : Rules → Access → ℕ → Bool
 allows_register s x r = allows x (register_level s.rights r)
 
--- 39: is a cell inside a memory of some size?
+-- 39: does a memory of some size have a cell?
 abbrev pub is_inside : ℕ → ℕ → Bool
 is_inside size a = nat_lt a size
 
@@ -36,11 +36,11 @@ is_inside size a = nat_lt a size
 abbrev pub cell_level : Rules → ℕ → ℕ
 cell_level s a = cond (nat_lt a s.layout.code) s.rights.code (cond (nat_lt a (s.layout.code + s.layout.constants)) s.rights.constants 0)
 
--- 40: does the level of a cell's segment allow the access?
+-- 40: is the segment of a cell open to an access?
 abbrev pub allows_cell : Rules → Access → ℕ → Bool
 allows_cell s x a = allows x (cell_level s a)
 
--- 41: for a push to a cell at or below the initial stack pointer, is the distance plus 1 at most the maximum?
+-- 41: are the words from the initial stack pointer down to a cell no more than the maximum? A cell above gets a yes
 abbrev pub fits_stack : Rules → ℕ → Bool
 fits_stack s a = cond (nat_le a s.layout.stack) (nat_le (s.layout.stack - a + 1) s.rights.stack) true
 

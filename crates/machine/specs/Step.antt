@@ -23,7 +23,7 @@ pub record State : Type 0 where
 abbrev pub state : Core → List ℕ → Meaning → State
 state core c m = record { core = core; cells = c; meaning = m }
 
--- 31: is the code at most 53? Then the operation of its opcode works on the fetched word
+-- 31: does some opcode have the code? Then its operation works on the fetched word
 abbrev pub with_opcode : Option Opcode → ℕ → Core → Act
 with_opcode None w core = fault cause.Opcode
 with_opcode (Some o) w core = act_of (operation_of o) (fetch w core)
@@ -31,7 +31,7 @@ with_opcode (Some o) w core = act_of (operation_of o) (fetch w core)
 abbrev pub command_act : ℕ → Core → Act
 command_act w core = with_opcode (opcode_at (code_field w)) w core
 
--- 30: is r15 inside memory? Then the word there is fetched, of which the permit is not asked
+-- 30: does r15 point at a cell of the memory? Then the word there is fetched, of which the permit is not asked
 abbrev pub step_act : Core → List ℕ → Act
 step_act core c = cond (is_inside (length c) (in_register core 15)) (command_act (slice_index c (in_register core 15)) (advanced core)) (fault cause.Fetch)
 

@@ -9,31 +9,31 @@ use host::refusal::Refusal;
 use integers::division::NoFit;
 
 /// The question about a step that gets a no first.
-#[derive(Clone, Copy)]
+#[derive(Clone, Copy, PartialEq, Eq)]
 pub enum Cause {
-    /// 30: is r15 inside memory?
+    /// 30: is there a cell at the address in r15?
     Fetch,
-    /// 31: is the code at most 53?
+    /// 31: does the word have a command's code, 53 or less?
     Opcode,
-    /// 32: is there such a system call?
+    /// 32: is there a system call with this number?
     SystemCall,
-    /// 33: has each pair a next register?
+    /// 33: does each pair begin at r14 or below, so that a second register follows?
     Pair,
-    /// 34: does the permit allow each named register its reading and writing?
+    /// 34: do the levels of the operands' registers allow what the command does to them?
     Register,
-    /// 35: is the shift at most 31?
+    /// 35: is the value to be shifted by 31 bits or fewer?
     Shift,
-    /// 36: does the quotient fit?
+    /// 36: is there a quotient that one register can hold?
     Quotient,
-    /// 37: is the double above -1 and below 4,294,967,296?
+    /// 37: does the double lie strictly between -1 and 4,294,967,296?
     Double,
-    /// 38: is the character at most 255?
+    /// 38: is the character's number 255 or less?
     Character,
-    /// 39: is the cell, or the target of a call, inside memory?
+    /// 39: is the cell, or the target of the call, inside memory?
     Cell,
-    /// 40: does the level of its segment allow it?
+    /// 40: does the level of the cell's segment allow the access?
     Segment,
-    /// 41: is the stack short enough for a push?
+    /// 41: does the push keep the stack within the permit's maximum?
     Stack,
     /// 42 to 45: what the host was asked.
     Host(Refusal),

@@ -8,6 +8,7 @@ mod commands;
 mod execute;
 pub mod fault;
 pub mod flags;
+pub mod laws;
 pub mod layout;
 mod operation;
 mod pair;

@@ -5,6 +5,7 @@ ghost use Rattle.machine.specs.Act.{perform};
 ghost use Rattle.machine.specs.Cores.{core_of};
 ghost use Rattle.machine.specs.Outcomes.{outcome};
 ghost use Rattle.machine.specs.Rules.{rules_of};
+ghost use Rattle.machine.specs.Sequences.{IsLawful};
 ghost use Rattle.machine.specs.Step.{command_act, state, step_act, stepped};
 ghost use Rattle.machine.specs.Turns.{InTurn};
 
@@ -27,7 +28,9 @@ impl Processor {
         cells: &mut [u32],
         host: &mut H,
     ) -> Result<Turn, Cause>
-        ensures value { perform (rules_of rules.now) (command_act word.word (core_of self.old)) cells.old (H.meaning host.old) ≡ outcome result (core_of self.new) cells.new (H.meaning host.new) }
+        ensures value { let act = command_act word.word (core_of self.old) in
+            let after = outcome result (core_of self.new) cells.new (H.meaning host.new) in
+            perform (rules_of rules.now) act cells.old (H.meaning host.old) ≡ after }
         ensures kept { IfErr result (λ _. core_of self.new ≡ core_of self.old) }
         ensures cells { IfErr result (λ _. cells.new ≡ cells.old) }
         ensures host { IfErr result (λ _. H.meaning host.new ≡ H.meaning host.old) }
@@ -46,7 +49,9 @@ impl Processor {
         cells: &mut [u32],
         host: &mut H,
     ) -> Result<Turn, Cause>
-        ensures value { perform (rules_of rules.now) (step_act (core_of self.old) cells.old) cells.old (H.meaning host.old) ≡ outcome result (core_of self.new) cells.new (H.meaning host.new) }
+        ensures value { let act = step_act (core_of self.old) cells.old in
+            let after = outcome result (core_of self.new) cells.new (H.meaning host.new) in
+            perform (rules_of rules.now) act cells.old (H.meaning host.old) ≡ after }
         ensures kept { IfErr result (λ _. core_of self.new ≡ core_of self.old) }
         ensures cells { IfErr result (λ _. cells.new ≡ cells.old) }
         ensures host { IfErr result (λ _. H.meaning host.new ≡ H.meaning host.old) }
@@ -76,11 +81,16 @@ impl Processor {
         cells: &mut [u32],
         host: &mut H,
     ) -> Result<Turn, Fault>
-        ensures value { result ≡ (stepped (rules_of rules.now) (state (core_of self.old) cells.old (H.meaning host.old))).turn }
-        ensures after { state (core_of self.new) cells.new (H.meaning host.new) ≡ (stepped (rules_of rules.now) (state (core_of self.old) cells.old (H.meaning host.old))).state }
-        ensures turn { InTurn 30 (step_act (core_of self.old) cells.old) }
+        ensures value { let before = state (core_of self.old) cells.old (H.meaning host.old) in
+            result ≡ (stepped (rules_of rules.now) before).turn }
+        ensures after { let before = state (core_of self.old) cells.old (H.meaning host.old) in
+            let after = state (core_of self.new) cells.new (H.meaning host.new) in
+            after ≡ (stepped (rules_of rules.now) before).state }
+        ensures turn { InTurn 0 (step_act (core_of self.old) cells.old) }
+        ensures lawful { IsLawful (state (core_of self.old) cells.old (H.meaning host.old)) }
         ensures lender { H.roots host.new ≡ H.roots host.old }
     {
+        self.holds_words(cells);
         let address = self.register(R15);
         match self.attempt(rules, cells, host) {
             Ok(turn) => Ok(turn),

@@ -2,7 +2,7 @@
 use Rattle.std.proofs.Common.{◌≡◌, ℕ, ◌+◌, ◌<◌, ◌≤◌, Bool, true, false, cond, List, [], ◌∷◌, length, Some, None, Ok, Err, Option, Result, sym, refl, ap, arith}
 use Rattle.std.specs.Result.{IfErr}
 use Rattle.lexer.specs.Cursor.{lines_in, numbered_in}
-use Rattle.lexer.specs.Text.{lines_of, before, numbered}
+use Rattle.lexer.specs.Text.{CodeLine, lines_of, code_of, numbered}
 use Rattle.lexer.specs.declared.lines.Lines.{Lines}
 use Rattle.permit.specs.Rights.{Rights, new_rights}
 use Rattle.permit.specs.declared.permit.Permit.{Permit}
@@ -14,9 +14,9 @@ use Rattle.permit_text.specs.Files.{after_setting, after_line, after_lines, and_
 use Rattle.permit_text.specs.Settings.{setting_in, in_range, with_setting}
 use Rattle.permit_text.specs.Words.{words_of}
 
-abbrev pub after_told : List (ℕ × ℕ × List ℕ) → Rights → Result Rights PermitError
+abbrev pub after_told : List CodeLine → Rights → Result Rights PermitError
 after_told [] p = Ok p
-after_told (l ∷ ls) p = and_then (after_line l.0 (words_of l.2) p) (after_told ls)
+after_told (l ∷ ls) p = and_then (after_line l.number (words_of l.code) p) (after_told ls)
 
 and_then_same : (r : Result Rights PermitError) (f g : Rights → Result Rights PermitError) → ((p : Rights) → f p ≡ g p) → and_then r f ≡ and_then r g
 and_then_same (Ok p) f g h = h p
@@ -54,7 +54,7 @@ among_more line l ls (Err d) e here next h = let same : d ≡ e = cc in let k = 
 among : (line : ℕ) (ls : List (List ℕ)) (p : Rights) (e : PermitError) → after_lines line ls p ≡ Err e → Among line ls e
 among line [] p e h = cc
 among line (l ∷ ls) p e h =
-    let words = words_of (before 35 l) in
+    let words = words_of (code_of l) in
     among_more line l ls (after_line line words p) e (named_in_line line words p) (λ q. among (line + 1) ls q e) h
 
 pub line_named : (text : List ℕ) (r : Result Permit PermitError) → shown r ≡ permit_in text → IfErr r (λ e. IsLineOf text (line_of e))

@@ -1,6 +1,6 @@
 -- What a permit file says.
 use Rattle.std.specs.Prelude.{ℕ, ◌+◌, cond, List, [], ◌∷◌, Some, None, Option, Ok, Err, Result}
-use Rattle.lexer.specs.Text.{lines_of, before}
+use Rattle.lexer.specs.Text.{lines_of, code_of}
 use Rattle.permit.specs.declared.permit.Permit.{Permit}
 use Rattle.permit.specs.Rights.{Rights, rights_of, new_rights}
 use Rattle.permit_text.specs.declared.error.PermitError.{PermitError}
@@ -27,7 +27,7 @@ and_then (Err error) next = Err error
 -- the rights after some lines, by the number of the first: from a hash (35) on, a line is a comment
 abbrev pub after_lines : ℕ → List (List ℕ) → Rights → Result Rights PermitError
 after_lines line [] rights = Ok rights
-after_lines line (l ∷ ls) rights = and_then (after_line line (words_of (before 35 l)) rights) (after_lines (line + 1) ls)
+after_lines line (l ∷ ls) rights = and_then (after_line line (words_of (code_of l)) rights) (after_lines (line + 1) ls)
 
 -- the rights that a permit file gives, from those of a new permit on, or its first line that is refused
 abbrev pub permit_in : List ℕ → Result Rights PermitError

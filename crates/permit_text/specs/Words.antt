@@ -2,7 +2,7 @@
 use Rattle.std.specs.Prelude.{ℕ, Bool, true, false, ◌||◌, List, [], ◌∷◌, filter, ◌==◌}
 use Rattle.std.specs.List.{slice_split}
 
--- words are parted by bytes 32, 9 and 13
+-- the blanks between words: bytes 32, 9 and 13
 abbrev pub is_blank : ℕ → Bool
 is_blank b = b == 32 || b == 9 || b == 13
 

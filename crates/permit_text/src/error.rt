@@ -10,7 +10,7 @@ use permit::refusal::Refusal;
 pub enum PermitError {
     /// No setting stands in this line.
     NoSetting { line: usize },
-    /// 54: are register, level and maximum in range?
+    /// 54: are all in range: register 0 to 15, level 0 to 2, maximum 0 to 1,048,576?
     OutOfRange { line: usize },
 }
 

@@ -3,7 +3,7 @@ use Rattle.std.proofs.Common.{◌≡◌, ℕ, true, false, Bool, [], ◌∷◌, 
 use Rattle.machine.specs.declared.fault.Fault.{Fault}
 use Rattle.permit.specs.Rights.{rights_of}
 use Rattle.permit.specs.declared.permit.Permit.{Permit}
-use Rattle.runs.specs.Compared.{met, End, end_at, AfterBoth, Compared}
+use Rattle.runs.specs.Compared.{Both, met, End, end_at, AfterBoth, Compared}
 use Rattle.runs.specs.Laws.{by_permit, is_permit_fault}
 use Rattle.runs.specs.Requests.{told}
 use Rattle.runs.specs.Runs.{Held, Called, called}
@@ -38,18 +38,19 @@ met_so (Ok r) n e = by_ending (by_permit r.ending) refl e
         subst (FaultsSo (Ok r)) count (ends_so r.steps r.ending is)
 
 -- by the steps to a permit fault, if the first met one
-by_steps : (s t : Held) (b : ℕ) (p : Permit) (e : End) (f : Option Fault) (k : Option ℕ) (c : Called) → called (record { rights = rights_of p; budget = b }) s ≡ c
-    → met (told c.answer) ≡ k → AfterBoth k 0 c.held t e (e ≡ end_at Same c.held t)
-    → length e.first.cells ≡ length s.cells → f ≡ fault_at e.outcome (rights_of p) e.first → IsMet e.outcome f c.answer
-by_steps s t b p e f None c is none after = subst (λ (x : End). length x.first.cells ≡ length s.cells → f ≡ fault_at x.outcome (rights_of p) x.first → IsMet x.outcome f c.answer) (sym after) (λ long so. tt)
-by_steps s t b p e f (Some n) c is some after =
-    subst (λ (x : End). length x.first.cells ≡ length s.cells → f ≡ fault_at x.outcome (rights_of p) x.first → IsMet x.outcome f c.answer) (sym after)
+by_steps : (s : Held) (b : ℕ) (p : Permit) (now : Both) (e : End) (f : Option Fault) (k : Option ℕ) (c : Called) → called (record { rights = rights_of p; budget = b }) s ≡ c → now.first ≡ c.held
+    → met (told c.answer) ≡ k → AfterBoth k 0 now e (e ≡ end_at Same now)
+    → length e.both.first.cells ≡ length s.cells → f ≡ fault_at e.outcome (rights_of p) e.both.first → IsMet e.outcome f c.answer
+by_steps s b p now e f None c is left none after = subst (λ (x : End). length x.both.first.cells ≡ length s.cells → f ≡ fault_at x.outcome (rights_of p) x.both.first → IsMet x.outcome f c.answer) (sym after) (λ long so. tt)
+by_steps s b p now e f (Some n) c is left some after =
+    subst (λ (x : End). length x.both.first.cells ≡ length s.cells → f ≡ fault_at x.outcome (rights_of p) x.both.first → IsMet x.outcome f c.answer) (sym after)
     (λ long so.
     let fault = met_so c.answer n some in
-    let again = met_again s (rights_of p) b n fault.0 (ap (λ x. x.answer) is ∙ fault.2) (ap (λ x. length x.held.cells) is ∙ long) in
-    (fault.0, so ∙ ap (λ x. next_fault (rights_of p) x.held) (sym is) ∙ again, fault.1, fault.2))
+    let here : (called (record { rights = rights_of p; budget = b }) s).held ≡ now.first = ap (λ x. x.held) is ∙ sym left in
+    let again = met_again s (rights_of p) b n fault.0 (ap (λ x. x.answer) is ∙ fault.2) (ap (λ x. length x.cells) here ∙ long) in
+    (fault.0, so ∙ ap (λ x. next_fault (rights_of p) x) (sym here) ∙ again, fault.1, fault.2))
 
-pub met_told : (s : Held) (b : ℕ) (p q : Permit) (e : End) (f : Option Fault) → Compared (run_under b p q ∷ []) 0 s s e
-    → length e.first.cells ≡ length s.cells → f ≡ fault_at e.outcome (rights_of p) e.first → IsMet e.outcome f (called (record { rights = rights_of p; budget = b }) s).answer
-met_told s b p q e f (inl both) = by_steps s _ b p e f _ (called (record { rights = rights_of p; budget = b }) s) refl refl both.1
-met_told s b p q e f (inr other) = subst (λ (x : End). length x.first.cells ≡ length s.cells → f ≡ fault_at x.outcome (rights_of p) x.first → IsMet x.outcome f (called (record { rights = rights_of p; budget = b }) s).answer) (sym other.1) (λ long so. tt)
+pub met_told : (s : Held) (b : ℕ) (p q : Permit) (e : End) (f : Option Fault) → Compared (run_under b p q ∷ []) 0 (record { first = s; second = s; other = [] }) e
+    → length e.both.first.cells ≡ length s.cells → f ≡ fault_at e.outcome (rights_of p) e.both.first → IsMet e.outcome f (called (record { rights = rights_of p; budget = b }) s).answer
+met_told s b p q e f (inl both) = by_steps s b p _ e f _ (called (record { rights = rights_of p; budget = b }) s) refl refl refl both.1
+met_told s b p q e f (inr other) = subst (λ (x : End). length x.both.first.cells ≡ length s.cells → f ≡ fault_at x.outcome (rights_of p) x.both.first → IsMet x.outcome f (called (record { rights = rights_of p; budget = b }) s).answer) (sym other.1) (λ long so. tt)

@@ -77,7 +77,7 @@ pub span_whole : (s : Settings) (left : ℕ) (h here : Held) (r : Report) → Sp
 span_whole s left h here r span none = ap (λ n. called (record { rights = s.rights; budget = n }) h) (omega (arith, none)) ∙ span.is
 
 -- an ending other than spent is that of a run that ended by itself
-ends_itself : (e : Ending) → (e ≡ Spent → ⊥) → by_itself e ≡ true
+pub ends_itself : (e : Ending) → (e ≡ Spent → ⊥) → by_itself e ≡ true
 ends_itself Spent not = absurd (not refl)
 ends_itself Halted not = refl
 ends_itself (Exited n) not = refl

@@ -1,4 +1,6 @@
 pub mod Numbers
 pub mod Parting
 pub mod Traced
+pub mod Waiting
+pub mod Watched
 pub mod Whole

@@ -62,7 +62,7 @@ outcome readings r h = record {
   word = slice_get h.cells (in_register h.machine.core 15);
 }
 
--- 46: are the writes at most 65,536? 52: is the budget at most 100,000,000?
+-- 46: are 65,536 writes or fewer asked for? 52: is the budget 100,000,000 steps or fewer?
 abbrev pub asked_more : Orders → Machine → Result Machine Refusal
 asked_more o m = cond (nat_le o.writes 65536) (cond (nat_le o.budget 100_000_000) (Ok m) (Err BudgetTooLarge)) (Err NoRoom)
 

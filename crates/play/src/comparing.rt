@@ -5,7 +5,7 @@ ghost use Rattle.permit.specs.Open.{AsOpen};
 ghost use Rattle.permit.specs.Rights.{rights_of};
 ghost use Rattle.play.specs.Parting.{fault_at, next_fault, run_under, Parts, PartsFrom};
 ghost use Rattle.play.specs.Whole.{orders_of, Ready};
-ghost use Rattle.runs.specs.Compared.{NoDifference};
+ghost use Rattle.runs.specs.Agreement.{NoDifference};
 ghost use Rattle.runs.specs.Machines.{machine_of};
 ghost use Rattle.runs.specs.Runs.{held};
 
@@ -21,7 +21,7 @@ use runs::loaded::Machine;
 use runs::loaded::both::compare;
 use runs::refusal::LoadRefusal;
 use runs::report::{Ending, Report};
-use runs::request::{Call, Request};
+use runs::request::{Call, Memory, Request};
 use runs::settings::Settings;
 use std::alloc::Global;
 
@@ -43,7 +43,7 @@ fn run_under(budget: u64, first: &Permit, second: &Permit) -> Pairing
     Pairing {
         request: Request {
             call: Call::Run(budget),
-            elsewhere: false,
+            memory: Memory::Own,
         },
         first: *first,
         second: *second,
@@ -113,6 +113,7 @@ fn part(
         &mut host,
         other.cells.as_mut_slice(),
         &mut other_host,
+        &mut [],
         &[run],
     )?;
     let outcome = comparison.outcome;

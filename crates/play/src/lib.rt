@@ -7,6 +7,7 @@ pub mod orders;
 pub mod play;
 pub mod played;
 mod prepared;
+mod readings;
 pub mod refusal;
 mod taken;
 pub mod trace;

@@ -12,9 +12,9 @@ use std::alloc::AllocError;
 pub enum Refusal {
     /// 20 to 26 and 29: what loading asks.
     Load(LoadRefusal),
-    /// 46: are the writes at most 65,536?
+    /// 46: are 65,536 writes or fewer asked for?
     NoRoom,
-    /// 52: is the budget at most 100,000,000?
+    /// 52: is the budget 100,000,000 steps or fewer?
     BudgetTooLarge,
     /// There is no memory.
     Memory,

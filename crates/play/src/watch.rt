@@ -1,6 +1,6 @@
 //! Being told how far a run is.
 
-use host::lent_host::LentHost;
+ghost use Rattle.play.specs.Watched.{told, Told};
 
 /// How far a run is that may go on.
 #[derive(Clone, Copy)]
@@ -15,17 +15,10 @@ pub struct Progress<'a> {
 
 /// Is told between the parts of a run how far it is.
 pub trait Watch {
+    // what holds between the watcher before and after it is told something
+    ghost hears: { Self → Told → Self → Type 0 };
+
     /// Is told once after each part that was taken.
-    fn tell(&mut self, progress: Progress<'_>);
-}
-
-/// A host whose tape of waiting readings can be seen.
-pub(crate) trait Waits {
-    fn waiting_tape(&self) -> &[u8];
-}
-
-impl<'i, 'o> Waits for LentHost<'i, 'o, u8> {
-    fn waiting_tape(&self) -> &[u8] {
-        self.waiting()
-    }
+    fn tell(&mut self, progress: Progress<'_>)
+        ensures { hears self.old (told progress.entry) self.new };
 }

@@ -1,11 +1,12 @@
 //! A run in parts, of which somebody is told between them.
 
 ghost use Rattle.std.specs.Prelude.{◌≡◌, ◌+◌, ◌<◌, ◌^◌};
+ghost use Rattle.play.specs.Watched.{told_if_run, HearsAll};
 ghost use Rattle.runs.specs.Machines.{machine_of};
 ghost use Rattle.runs.specs.Runs.{called, held, settings_of};
 
-use crate::watch::{Progress, Waits, Watch};
-use host::host::Host;
+use crate::readings::Waits;
+use crate::watch::{Progress, Watch};
 use runs::loaded::Machine;
 use runs::refusal::CallRefusal;
 use runs::report::{Ending, Report};
@@ -29,7 +30,7 @@ fn joined(before: Report, more: Report) -> Report
 }
 
 /// One run of the whole budget, taken in parts. The watcher is told after each of them.
-pub(crate) fn run_watched<H: Host + Waits, W: Watch>(
+pub(crate) fn run_watched<H: Waits, W: Watch>(
     machine: &mut Machine,
     settings: &Settings<'_>,
     cells: &mut [u32],
@@ -39,6 +40,8 @@ pub(crate) fn run_watched<H: Host + Waits, W: Watch>(
     ensures value { result ≡ (called (settings_of settings.now) (held (machine_of machine.old) cells.old (H.meaning host.old))).answer }
     ensures after { held (machine_of machine.new) cells.new (H.meaning host.new) ≡ (called (settings_of settings.now) (held (machine_of machine.old) cells.old (H.meaning host.old))).held }
     ensures lender { H.roots host.new ≡ H.roots host.old }
+    ensures heard { let first = held (machine_of machine.old) cells.old (H.meaning host.old) in
+        HearsAll W.hears (told_if_run H.readings (settings_of settings.now) first) watch.old watch.new }
 {
     let Settings { permit, budget } = *settings;
     if budget > MOST {

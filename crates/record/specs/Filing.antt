@@ -1,10 +1,11 @@
 -- Making a record.
-use Rattle.std.specs.Prelude.{◌≡◌, ℕ, true, List, ◌++◌, Ok, Err, Result}
+use Rattle.std.specs.Prelude.{◌≡◌, ℕ, true, List, [], ◌++◌, length, Ok, Err, Result}
 use Rattle.assembler.specs.declared.question.Refusal as question
 use Rattle.listing.specs.declared.refusal.Refusal as listing
 use Rattle.permit.specs.Rights.{Rights}
 use Rattle.permit_text.specs.Files.{permit_in}
 use Rattle.permit_text.specs.declared.error.PermitError.{PermitError}
+use Rattle.play.specs.Watched.{Told, told_of_whole}
 use Rattle.play.specs.Whole.{Outcome, whole_run}
 use Rattle.play.specs.Whole as play
 use Rattle.play.specs.declared.refusal.Refusal as playing
@@ -47,7 +48,7 @@ shown_made m = record { executable = m.executable.items; labels = m.labels; list
 
 -- of an executable, its listing and its run
 abbrev pub made_by : Inputs → tasks.Made → List ℕ → Outcome → Made
-made_by i a page o = record { executable = a.bytes; labels = a.labels; listing = page; page = page_text i.preamble o; outcome = o }
+made_by i a page o = record { executable = a.bytes; labels = length a.labels; listing = page; page = page_text i.preamble o; outcome = o }
 
 abbrev pub with_run : Inputs → tasks.Made → List ℕ → Result Outcome playing.Refusal → Result Made FileError
 with_run i a page (Ok o) = Ok (made_by i a page o)
@@ -69,6 +70,18 @@ filed_by i (Err r) = Err (Source r)
 -- the source is assembled, the permit read, the executable listed and run; the first refusal counts
 abbrev pub filed : Inputs → Result Made FileError
 filed i = filed_by i (made i.source)
+
+-- what is told of the run while it goes on
+abbrev pub told_under : Inputs → tasks.Made → Result Rights PermitError → List Told
+told_under i a (Ok rights) = told_of_whole (orders_for a.bytes i.readings rights)
+told_under i a (Err e) = []
+
+abbrev pub told_by : Inputs → Result tasks.Made question.Refusal → List Told
+told_by i (Ok a) = told_under i a (permit_in i.permit)
+told_by i (Err r) = []
+
+abbrev pub told_of_filing : Inputs → List Told
+told_of_filing i = told_by i (made i.source)
 
 -- an answer is that, unless there is no memory
 abbrev pub Files : Inputs → Result made.Made FileError → Type 0

@@ -1,10 +1,11 @@
 -- Opening a record.
-use Rattle.std.specs.Prelude.{◌≡◌, ℕ, Bool, true, false, ◌&&◌, List, Ok, Err, Result, ◌==◌}
+use Rattle.std.specs.Prelude.{◌≡◌, ℕ, Bool, true, false, ◌&&◌, List, [], Ok, Err, Result, ◌==◌}
 use Rattle.std.specs.List.{ends_with}
 use Rattle.listing.specs.declared.refusal.Refusal as listing
 use Rattle.permit.specs.Rights.{Rights}
 use Rattle.permit_text.specs.Files.{permit_in}
 use Rattle.permit_text.specs.declared.error.PermitError.{PermitError}
+use Rattle.play.specs.Watched.{Told, told_of_whole}
 use Rattle.play.specs.Whole.{Orders, Outcome, whole_run}
 use Rattle.play.specs.Whole as play
 use Rattle.play.specs.declared.refusal.Refusal as playing
@@ -64,6 +65,14 @@ run_under c (Err e) = Err (Permit e)
 abbrev pub run_found : Contents → Result Rerun RunError
 run_found c = run_under c (permit_in c.permit)
 
+-- what is told of that run while it goes on
+abbrev pub told_under : Contents → Result Rights PermitError → List Told
+told_under c (Ok rights) = told_of_whole (orders_for c.executable c.readings rights)
+told_under c (Err e) = []
+
+abbrev pub told_of_rerun : Contents → List Told
+told_of_rerun c = told_under c (permit_in c.permit)
+
 -- what is found of a record
 pub record Opened : Type 0 where
   pub listing : Finding
@@ -76,6 +85,14 @@ opened_by c (Err q) = Err q
 
 abbrev pub opened : Contents → Result Opened listing.Refusal
 opened c = opened_by c (listed_whole c.executable)
+
+-- what is told while it is opened
+abbrev pub told_by : Contents → Result (List ℕ) listing.Refusal → List Told
+told_by c (Ok page) = told_of_rerun c
+told_by c (Err q) = []
+
+abbrev pub told_of_opening : Contents → List Told
+told_of_opening c = told_by c (listed_whole c.executable)
 
 -- whether all agrees
 abbrev pub is_agreed : Finding → Bool

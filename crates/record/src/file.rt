@@ -2,8 +2,9 @@
 
 ghost use Rattle.std.specs.Prelude.{◌≡◌, true, is_ok, IfOk, Ok};
 ghost use Rattle.executable.specs.Check.{checked};
+ghost use Rattle.play.specs.Watched.{Hears};
 ghost use Rattle.play.specs.Whole.{shown};
-ghost use Rattle.record.specs.Filing.{after_assembling, after_playing, contents_with, inputs_of, page_text, shown_made, Files, ReplayAgrees};
+ghost use Rattle.record.specs.Filing.{after_assembling, after_playing, contents_with, inputs_of, page_text, shown_made, told_of_filing, Files, ReplayAgrees};
 ghost use Rattle.record.specs.Opened.{opened};
 ghost use Rattle.record.specs.declared.file.FileError.TheVariants.{Memory, Permit};
 ghost use Rattle.tasks.specs.Listing.{listed_whole};
@@ -114,7 +115,8 @@ fn page_of(heap: Global, preamble: &[u8], played: &Played) -> Result<Vec<u8>, Al
 
 /// Assembles the source, reads the permit, lists the executable, and runs it over the readings.
 fn make<W: Watch>(heap: Global, inputs: &Inputs<'_>, watch: &mut W) -> Result<Made, FileError>
-    ensures { Files (inputs_of inputs.now) result }
+    ensures filed { Files (inputs_of inputs.now) result }
+    ensures heard { Hears W.hears (told_of_filing (inputs_of inputs.now)) result watch.old watch.new }
 {
     let assembled = assemble_source(heap, inputs.source)?;
     let permit = read_permit(inputs.permit)?;
@@ -126,7 +128,7 @@ fn make<W: Watch>(heap: Global, inputs: &Inputs<'_>, watch: &mut W) -> Result<Ma
         executable: assembled.bytes,
         listing,
         page,
-        labels: assembled.labels,
+        labels: assembled.labels.len(),
         played,
     })
 }
@@ -134,6 +136,7 @@ fn make<W: Watch>(heap: Global, inputs: &Inputs<'_>, watch: &mut W) -> Result<Ma
 /// Makes a record. Opened again, with the readings and the permit that it was made of, all of it agrees.
 pub fn file<W: Watch>(heap: Global, inputs: &Inputs<'_>, watch: &mut W) -> Result<Made, FileError>
     ensures filed { Files (inputs_of inputs.now) result }
+    ensures heard { Hears W.hears (told_of_filing (inputs_of inputs.now)) result watch.old watch.new }
     ensures replays { IfOk result (λ made. ReplayAgrees (opened (contents_with (inputs_of inputs.now) (shown_made made)))) }
 {
     make(heap, inputs, watch)

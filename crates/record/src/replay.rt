@@ -2,9 +2,10 @@
 
 ghost use Rattle.std.specs.Prelude.{◌≡◌, IfOk};
 ghost use Rattle.permit.specs.Rights.{rights_of};
+ghost use Rattle.play.specs.Watched.{Hears};
 ghost use Rattle.play.specs.Whole.{orders_of};
 ghost use Rattle.play.specs.Whole as playing;
-ghost use Rattle.record.specs.Opened.{after_listing, agrees, contents_of, orders_for, rerun_of, run_found, shown, shown_rerun, shown_run, Replays};
+ghost use Rattle.record.specs.Opened.{after_listing, agrees, contents_of, orders_for, rerun_of, run_found, shown, shown_rerun, shown_run, told_of_opening, told_of_rerun, Replays};
 ghost use Rattle.record.specs.declared.replay.ReplayError.TheVariants.{Memory};
 
 use crate::contents::Contents;
@@ -126,7 +127,8 @@ fn run_again<W: Watch>(
     contents: &Contents<'_>,
     watch: &mut W,
 ) -> Result<Result<Rerun, RunError>, AllocError>
-    ensures { IfOk result (λ r. shown_run r ≡ run_found (contents_of contents.now)) }
+    ensures found { IfOk result (λ r. shown_run r ≡ run_found (contents_of contents.now)) }
+    ensures heard { Hears W.hears (told_of_rerun (contents_of contents.now)) result watch.old watch.new }
 {
     let permit = match read_permit(contents.permit) {
         Ok(permit) => permit,
@@ -149,7 +151,8 @@ pub fn replay<W: Watch>(
     contents: &Contents<'_>,
     watch: &mut W,
 ) -> Result<Opened, ReplayError>
-    ensures { Replays (contents_of contents.now) result }
+    ensures found { Replays (contents_of contents.now) result }
+    ensures heard { Hears W.hears (told_of_opening (contents_of contents.now)) result watch.old watch.new }
 {
     let page = list_page(heap, contents.executable)?;
     let listing = compare_texts(page.as_slice(), contents.listing);

@@ -1,8 +1,9 @@
 //! Making a record, and what is told of it.
 
 ghost use Rattle.std.specs.Prelude.{◌≡◌, IfOk, IfSome, None, Some};
+ghost use Rattle.play.specs.Watched.{Hears};
 ghost use Rattle.play.specs.Whole.{shown as shown_played};
-ghost use Rattle.record.specs.Filing.{contents_with, inputs_of, shown_made, ReplayAgrees};
+ghost use Rattle.record.specs.Filing.{contents_with, inputs_of, shown_made, told_of_filing, ReplayAgrees};
 ghost use Rattle.record.specs.Opened.{opened};
 ghost use Rattle.record_replies.specs.Filing.{filing, made_filing, no_filing, refused_source, shown_filing, taken};
 ghost use Rattle.reply.specs.Replies.{shown};
@@ -69,6 +70,7 @@ pub fn file<W: Watch>(
     watch: &mut W,
 ) -> Result<Filing, AllocError>
     ensures told { IfOk result (λ f. shown_filing f ≡ filing permit_name.now (inputs_of inputs.now)) }
+    ensures heard { Hears W.hears (told_of_filing (inputs_of inputs.now)) result watch.old watch.new }
     ensures replays { IfOk result (λ f. IfSome f.made (λ m. ReplayAgrees (opened (contents_with (inputs_of inputs.now) (shown_made m))))) }
 {
     match record::file::file(heap, inputs, watch) {

@@ -1,8 +1,9 @@
 //! Opening a record, and what is told of it.
 
 ghost use Rattle.std.specs.Prelude.{◌≡◌, true, IfOk};
+ghost use Rattle.play.specs.Watched.{Hears};
 ghost use Rattle.record.specs.Filing.{ReplayAgrees};
-ghost use Rattle.record.specs.Opened.{contents_of, opened, shown as shown_opened};
+ghost use Rattle.record.specs.Opened.{contents_of, opened, shown as shown_opened, told_of_opening};
 ghost use Rattle.record_replies.specs.Replaying.{all_line, no_executable, replayed, told};
 ghost use Rattle.reply.specs.Replies.{shown};
 
@@ -58,6 +59,7 @@ pub fn replay<W: Watch>(
     watch: &mut W,
 ) -> Result<Reply, AllocError>
     ensures told { IfOk result (λ r. shown r ≡ replayed (contents_of contents.now)) }
+    ensures heard { Hears W.hears (told_of_opening (contents_of contents.now)) result watch.old watch.new }
     ensures agrees { IfOk result (λ r. r.done ≡ true → ReplayAgrees (opened (contents_of contents.now))) }
 {
     match record::replay::replay(heap, contents, watch) {

@@ -1,11 +1,11 @@
 -- The lines that the assembling program prints. Byte 10 ends each.
-use Rattle.std.specs.Prelude.{ℕ, ◌/◌, List, [], ◌∷◌, ◌++◌, length, codes, decimal}
+use Rattle.std.specs.Prelude.{ℕ, List, [], ◌∷◌, ◌++◌, codes, decimal}
 use Rattle.std.specs.List.{flat_map}
 use Rattle.assembler.specs.Labels.{name_in}
 use Rattle.assembler.specs.Questions.{number_of}
 use Rattle.assembler.specs.declared.label.Label.{Label}
 use Rattle.assembler.specs.declared.question.Refusal.{Refusal}
-use Rattle.executable.specs.Check.{Parts}
+use Rattle.builder.specs.declared.summary.Summary.{Summary}
 use Rattle.report.specs.Meanings.{meaning_of}
 
 -- a text as a line
@@ -21,13 +21,13 @@ refusal_line r =
 abbrev pub label_line : List ℕ → Label → List ℕ
 label_line text l = line (codes "label " ++ (name_in text l ++ (codes ": " ++ decimal l.address)))
 
--- a word has four bytes
-abbrev pub number_lines : Parts → List ℕ
-number_lines p =
-    line (codes "words of code: " ++ decimal (length p.code / 4))
-    ++ (line (codes "words of constants: " ++ decimal (length p.constants / 4))
-    ++ (line (codes "first instruction: " ++ decimal p.first) ++ line (codes "stack pointer: " ++ decimal p.stack)))
+-- the numbers of an executable, each on its line
+abbrev pub number_lines : Summary → List ℕ
+number_lines s =
+    line (codes "words of code: " ++ decimal s.code)
+    ++ (line (codes "words of constants: " ++ decimal s.constants)
+    ++ (line (codes "first instruction: " ++ decimal s.first) ++ line (codes "stack pointer: " ++ decimal s.stack)))
 
 -- the numbers of an executable, and the labels of the text that it was made from
-abbrev pub success_lines : Parts → List ℕ → List Label → List ℕ
-success_lines p text ls = number_lines p ++ flat_map (label_line text) ls
+abbrev pub success_lines : Summary → List ℕ → List Label → List ℕ
+success_lines s text ls = number_lines s ++ flat_map (label_line text) ls

@@ -4,14 +4,14 @@ use crate::refused::refusal_line;
 use crate::success::success_lines;
 use assembler::label::{Label, Place};
 use assembler::question::{Origin, Question, Refusal};
-use executable::parts::Executable;
+use builder::summary::Summary;
 use std::test::Fail;
 
 #[test]
 fn refusal(rt: HostRuntime) -> Result<(), Fail> {
     let refusal = Refusal {
         question: Question::Count,
-        origin: Origin { line: 3 },
+        origin: Origin::at(3),
     };
     let line = refusal_line(rt.alloc(), refusal)?;
     assert_eq!(rt;
@@ -23,13 +23,14 @@ fn refusal(rt: HostRuntime) -> Result<(), Fail> {
 
 #[test]
 fn no_labels(rt: HostRuntime) -> Result<(), Fail> {
-    let executable = Executable {
-        code: b"abcdefgh",
-        constants: b"abcd",
+    let summary = Summary {
+        length: 524,
+        code: 2,
+        constants: 1,
         first: 1,
         stack: 99,
     };
-    let lines = success_lines(rt.alloc(), b"", &[], executable)?;
+    let lines = success_lines(rt.alloc(), b"", &[], summary)?;
     let expected =
         b"words of code: 2\nwords of constants: 1\nfirst instruction: 1\nstack pointer: 99\n";
     assert!(rt; lines.as_slice() == expected.as_slice());
@@ -38,18 +39,19 @@ fn no_labels(rt: HostRuntime) -> Result<(), Fail> {
 
 #[test]
 fn one_label(rt: HostRuntime) -> Result<(), Fail> {
-    let executable = Executable {
-        code: b"",
-        constants: b"",
+    let summary = Summary {
+        length: 512,
+        code: 0,
+        constants: 0,
         first: 0,
         stack: 0,
     };
     let labels = [Label {
-        place: Place { offset: 1 },
+        place: Place::at(1),
         length: 2,
         address: 7,
     }];
-    let lines = success_lines(rt.alloc(), b" go: halt r0 0\n", &labels, executable)?;
+    let lines = success_lines(rt.alloc(), b" go: halt r0 0\n", &labels, summary)?;
     let expected =
         b"words of code: 0\nwords of constants: 0\nfirst instruction: 0\nstack pointer: 0\nlabel go: 7\n";
     assert!(rt; lines.as_slice() == expected.as_slice());

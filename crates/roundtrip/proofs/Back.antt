@@ -9,6 +9,7 @@ use Rattle.lexer.specs.Text.{lines_of}
 use Rattle.lexer.proofs.Again.{EachHigh, closing, lines_again}
 use Rattle.listing.specs.Listing.{listing_lines, listing}
 use Rattle.listing.proofs.Room.{Words, words_small, bytes_take, bytes_drop, listing_length, executable_length}
+use Rattle.assembler.specs.Labels.{name_in}
 use Rattle.assembler.specs.Assembled.{Assembled, good, bad, all_text_bytes, right_text, fresh, run_from, lastly, after_lines, assembled}
 use Rattle.assembler.specs.Emit.{words_from, lost_from, start_from, executable_of}
 use Rattle.roundtrip.specs.Laws.{Bytes, Accepted, AssemblesBack, TellsApart}
@@ -39,28 +40,28 @@ module _ (bs : List ℕ) (h : Bytes bs) (accepted : Accepted bs) where
   lines = lines_again (listing_lines (parts_in bs)) lines_high
 
   module _ (t : List ℕ) where
-    ran : Ends (length (words_of (parts_in bs).code)) (length (words_of (parts_in bs).constants)) (parts_in bs).stack (run_from t 0 [] fresh 1 0 (closing (listing_lines (parts_in bs))))
+    ran : Ends (length (words_of (parts_in bs).code)) (length (words_of (parts_in bs).constants)) (parts_in bs).stack (run_from (name_in t) 0 [] fresh 1 0 (closing (listing_lines (parts_in bs))))
     ran = run_all t 0 (parts_in bs).stack (parts_in bs).first (words_of (parts_in bs).code) (words_of (parts_in bs).constants) (stack_small bs accepted) (first_small bs accepted) code_small constants_small (few_words bs accepted)
 
-    words : words_from t [] (closing (listing_lines (parts_in bs))) ≡ words_of (parts_in bs).code ++ words_of (parts_in bs).constants
+    words : words_from (name_in t) [] (closing (listing_lines (parts_in bs))) ≡ words_of (parts_in bs).code ++ words_of (parts_in bs).constants
     words = words_all (parts_in bs).stack (parts_in bs).first (words_of (parts_in bs).code) (words_of (parts_in bs).constants) (stack_small bs accepted) (first_small bs accepted) code_small constants_small t []
 
-    lost : lost_from t [] 1 (closing (listing_lines (parts_in bs))) ≡ None
+    lost : lost_from (name_in t) [] 1 (closing (listing_lines (parts_in bs))) ≡ None
     lost = lost_all (parts_in bs).stack (parts_in bs).first (words_of (parts_in bs).code) (words_of (parts_in bs).constants) (stack_small bs accepted) (first_small bs accepted) code_small constants_small t [] 1
 
-    start : start_from t [] (closing (listing_lines (parts_in bs))) ≡ (parts_in bs).first
+    start : start_from (name_in t) [] (closing (listing_lines (parts_in bs))) ≡ (parts_in bs).first
     start = start_all (parts_in bs).stack (parts_in bs).first (words_of (parts_in bs).code) (words_of (parts_in bs).constants) (stack_small bs accepted) (first_small bs accepted) code_small constants_small t []
 
 -- what follows the lines of a text that pass, over plain variables
-finish : (t : List ℕ) (ls : List (List ℕ)) (room k n p first : ℕ) (ws : List ℕ) → lines_of t ≡ ls → Ends k n p (run_from t 0 [] fresh 1 0 ls) → lost_from t [] 1 ls ≡ None → words_from t [] ls ≡ ws → start_from t [] ls ≡ first → 512 + 4 * (k + n) ≤ room
-    → after_lines t room (run_from t 0 [] fresh 1 0 (lines_of t)) ≡ good (executable_of k n first p ws) []
+finish : (t : List ℕ) (ls : List (List ℕ)) (room k n p first : ℕ) (ws : List ℕ) → lines_of t ≡ ls → Ends k n p (run_from (name_in t) 0 [] fresh 1 0 ls) → lost_from (name_in t) [] 1 ls ≡ None → words_from (name_in t) [] ls ≡ ws → start_from (name_in t) [] ls ≡ first → 512 + 4 * (k + n) ≤ room
+    → after_lines t room (run_from (name_in t) 0 [] fresh 1 0 (lines_of t)) ≡ good (executable_of k n first p ws) []
 finish t ls room k n p first ws lines ran lost words start fits =
     let pr = state ran.begun ran.stacked ran.constants true k n p in
-    ap (after_lines t room) (ap (run_from t 0 [] fresh 1 0) lines ∙ ran.is)
-    ∙ ap (lastly t room [] pr) (ap (lost_from t [] 1) lines ∙ lost)
+    ap (after_lines t room) (ap (run_from (name_in t) 0 [] fresh 1 0) lines ∙ ran.is)
+    ∙ ap (lastly t room [] pr) (ap (lost_from (name_in t) [] 1) lines ∙ lost)
     ∙ cond-true _ _ _ (le-leb (512 + 4 * (k + n)) room fits)
-    ∙ ap (λ x. good (executable_of k n x p (words_from t [] (lines_of t))) []) (ap (start_from t []) lines ∙ start)
-    ∙ ap (λ x. good (executable_of k n first p x) []) (ap (words_from t []) lines ∙ words)
+    ∙ ap (λ x. good (executable_of k n x p (words_from (name_in t) [] (lines_of t))) []) (ap (start_from (name_in t) []) lines ∙ start)
+    ∙ ap (λ x. good (executable_of k n first p x) []) (ap (words_from (name_in t) []) lines ∙ words)
 
 -- the listing of an accepted executable assembles back in any output that has room for it
 pub roomy : (bs : List ℕ) (room : ℕ) → Bytes bs → Accepted bs → length bs ≤ room → assembled (listing (parts_in bs)) 0 room ≡ good bs []

@@ -5,6 +5,7 @@ use Rattle.executable.specs.declared.segment.Segment.TheVariants.{Code, Constant
 use Rattle.lexer.proofs.Again.{AllHigh, EachHigh, closing}
 use Rattle.listing.proofs.Room.{Words}
 use Rattle.listing.specs.Lines.{blank_joined, number_line, word_line}
+use Rattle.assembler.specs.Labels.{name_in}
 use Rattle.assembler.specs.Emit.{line_says, put_by, words_from, uses, is_lost, lost_from, start_by, start_from}
 use Rattle.assembler.specs.Statements.{Meant, code, constant, stack, end}
 use Rattle.assembler.specs.declared.label.Label.{Label}
@@ -19,9 +20,9 @@ record Puts (f : ℕ → List (List ℕ)) : Type 0 where
   mean : ℕ → Meant
   high : (w : ℕ) → w < 2 ^ 32 → AllHigh (f w)
   says : (w : ℕ) → w < 2 ^ 32 → line_says (blank_joined (f w)) ≡ Some (mean w)
-  puts : (t : List ℕ) (ls : List Label) (w : ℕ) → put_by t ls (Some (mean w)) ≡ w ∷ []
+  puts : (t : List ℕ) (ls : List Label) (w : ℕ) → put_by (name_in t) ls (Some (mean w)) ≡ w ∷ []
   uses : (w : ℕ) → uses (Some (mean w)) ≡ None
-  goes : (t : List ℕ) (ls : List Label) (w d : ℕ) → start_by t ls (Some (mean w)) d ≡ d
+  goes : (t : List ℕ) (ls : List Label) (w d : ℕ) → start_by (name_in t) ls (Some (mean w)) d ≡ d
 
 code_puts : Puts (word_line Code)
 code_puts = record {
@@ -49,23 +50,23 @@ module _ (f : ℕ → List (List ℕ)) (each : Puts f) where
   high_each (w ∷ ws) h = (each.high w h.0, high_each ws h.1)
 
   module _ (t : List ℕ) (ls : List Label) (rest : List (List (List ℕ))) where
-    words_each : (ws : List ℕ) → Words ws → words_from t ls (closing (map f ws ++ rest)) ≡ ws ++ words_from t ls (closing rest)
+    words_each : (ws : List ℕ) → Words ws → words_from (name_in t) ls (closing (map f ws ++ rest)) ≡ ws ++ words_from (name_in t) ls (closing rest)
     words_each [] h = refl
     words_each (w ∷ ws) h =
-        let more = words_from t ls (closing (map f ws ++ rest)) in
-        ap (λ o. put_by t ls o ++ more) (each.says w h.0) ∙ ap (λ x. x ++ more) (each.puts t ls w) ∙ ap (λ l. w ∷ l) (words_each ws h.1)
+        let more = words_from (name_in t) ls (closing (map f ws ++ rest)) in
+        ap (λ o. put_by (name_in t) ls o ++ more) (each.says w h.0) ∙ ap (λ x. x ++ more) (each.puts t ls w) ∙ ap (λ l. w ∷ l) (words_each ws h.1)
 
-    lost_each : (ws : List ℕ) (n : ℕ) → Words ws → ((k : ℕ) → lost_from t ls k (closing rest) ≡ None) → lost_from t ls n (closing (map f ws ++ rest)) ≡ None
+    lost_each : (ws : List ℕ) (n : ℕ) → Words ws → ((k : ℕ) → lost_from (name_in t) ls k (closing rest) ≡ None) → lost_from (name_in t) ls n (closing (map f ws ++ rest)) ≡ None
     lost_each [] n h e = e n
     lost_each (w ∷ ws) n h e =
-        let more = lost_from t ls (n + 1) (closing (map f ws ++ rest)) in
-        ap (λ o. cond (is_lost t ls (uses o)) (Some n) more) (each.says w h.0) ∙ ap (λ o. cond (is_lost t ls o) (Some n) more) (each.uses w) ∙ lost_each ws (n + 1) h.1 e
+        let more = lost_from (name_in t) ls (n + 1) (closing (map f ws ++ rest)) in
+        ap (λ o. cond (is_lost (name_in t) ls (uses o)) (Some n) more) (each.says w h.0) ∙ ap (λ o. cond (is_lost (name_in t) ls o) (Some n) more) (each.uses w) ∙ lost_each ws (n + 1) h.1 e
 
-    start_each : (ws : List ℕ) → Words ws → start_from t ls (closing (map f ws ++ rest)) ≡ start_from t ls (closing rest)
+    start_each : (ws : List ℕ) → Words ws → start_from (name_in t) ls (closing (map f ws ++ rest)) ≡ start_from (name_in t) ls (closing rest)
     start_each [] h = refl
     start_each (w ∷ ws) h =
-        let more = start_from t ls (closing (map f ws ++ rest)) in
-        ap (λ o. start_by t ls o more) (each.says w h.0) ∙ each.goes t ls w more ∙ start_each ws h.1
+        let more = start_from (name_in t) ls (closing (map f ws ++ rest)) in
+        ap (λ o. start_by (name_in t) ls o more) (each.says w h.0) ∙ each.goes t ls w more ∙ start_each ws h.1
 
 module _ (s first : ℕ) (cs ks : List ℕ) (hs : s < 2 ^ 20) (hf : first < 2 ^ 20) (hc : Words cs) (hk : Words ks) where
   last_says : line_says (blank_joined (number_line (codes "end") first)) ≡ Some (end first)
@@ -83,27 +84,27 @@ module _ (s first : ℕ) (cs ks : List ℕ) (hs : s < 2 ^ 20) (hf : first < 2 ^ 
 
   module _ (t : List ℕ) (ls : List Label) where
     -- the words of the lines are the code words and the constants
-    pub words_all : words_from t ls (closing (number_line (codes "stack") s ∷ (map (word_line Code) cs ++ (map (word_line Constants) ks ++ (number_line (codes "end") first ∷ []))))) ≡ cs ++ ks
+    pub words_all : words_from (name_in t) ls (closing (number_line (codes "stack") s ∷ (map (word_line Code) cs ++ (map (word_line Constants) ks ++ (number_line (codes "end") first ∷ []))))) ≡ cs ++ ks
     words_all =
         let last = number_line (codes "end") first ∷ [] in
-        ap (λ o. put_by t ls o ++ words_from t ls (closing (map (word_line Code) cs ++ (map (word_line Constants) ks ++ last)))) first_says
+        ap (λ o. put_by (name_in t) ls o ++ words_from (name_in t) ls (closing (map (word_line Code) cs ++ (map (word_line Constants) ks ++ last)))) first_says
         ∙ words_each (word_line Code) code_puts t ls (map (word_line Constants) ks ++ last) cs hc
-        ∙ ap (λ l. cs ++ l) (words_each (word_line Constants) constant_puts t ls last ks hk ∙ ap (λ o. ks ++ (put_by t ls o ++ [])) last_says ∙ append-nil ks)
+        ∙ ap (λ l. cs ++ l) (words_each (word_line Constants) constant_puts t ls last ks hk ∙ ap (λ o. ks ++ (put_by (name_in t) ls o ++ [])) last_says ∙ append-nil ks)
 
     -- no line uses a label
-    pub lost_all : (n : ℕ) → lost_from t ls n (closing (number_line (codes "stack") s ∷ (map (word_line Code) cs ++ (map (word_line Constants) ks ++ (number_line (codes "end") first ∷ []))))) ≡ None
+    pub lost_all : (n : ℕ) → lost_from (name_in t) ls n (closing (number_line (codes "stack") s ∷ (map (word_line Code) cs ++ (map (word_line Constants) ks ++ (number_line (codes "end") first ∷ []))))) ≡ None
     lost_all n =
         let last = number_line (codes "end") first ∷ [] in
-        ap (λ o. cond (is_lost t ls (uses o)) (Some n) (lost_from t ls (n + 1) (closing (map (word_line Code) cs ++ (map (word_line Constants) ks ++ last))))) first_says
+        ap (λ o. cond (is_lost (name_in t) ls (uses o)) (Some n) (lost_from (name_in t) ls (n + 1) (closing (map (word_line Code) cs ++ (map (word_line Constants) ks ++ last))))) first_says
         ∙ lost_each (word_line Code) code_puts t ls (map (word_line Constants) ks ++ last) cs (n + 1) hc
         (λ k. lost_each (word_line Constants) constant_puts t ls last ks k hk
-        (λ m. ap (λ o. cond (is_lost t ls (uses o)) (Some m) (lost_from t ls (m + 1) ([] ∷ []))) last_says))
+        (λ m. ap (λ o. cond (is_lost (name_in t) ls (uses o)) (Some m) (lost_from (name_in t) ls (m + 1) ([] ∷ []))) last_says))
 
     -- the first instruction is that of the last line
-    pub start_all : start_from t ls (closing (number_line (codes "stack") s ∷ (map (word_line Code) cs ++ (map (word_line Constants) ks ++ (number_line (codes "end") first ∷ []))))) ≡ first
+    pub start_all : start_from (name_in t) ls (closing (number_line (codes "stack") s ∷ (map (word_line Code) cs ++ (map (word_line Constants) ks ++ (number_line (codes "end") first ∷ []))))) ≡ first
     start_all =
         let last = number_line (codes "end") first ∷ [] in
-        ap (λ o. start_by t ls o (start_from t ls (closing (map (word_line Code) cs ++ (map (word_line Constants) ks ++ last))))) first_says
+        ap (λ o. start_by (name_in t) ls o (start_from (name_in t) ls (closing (map (word_line Code) cs ++ (map (word_line Constants) ks ++ last))))) first_says
         ∙ start_each (word_line Code) code_puts t ls (map (word_line Constants) ks ++ last) cs hc
         ∙ start_each (word_line Constants) constant_puts t ls last ks hk
-        ∙ ap (λ o. start_by t ls o (start_from t ls ([] ∷ []))) last_says
+        ∙ ap (λ o. start_by (name_in t) ls o (start_from (name_in t) ls ([] ∷ []))) last_says

@@ -3,8 +3,10 @@ pub mod Back
 pub mod Coded
 pub mod Commands
 pub mod Emitted
+pub mod Questions
 pub mod Rebuilt
 pub mod Runs
 pub mod Says
 pub mod Shown
 pub mod Texts
+pub mod Told

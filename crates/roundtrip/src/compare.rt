@@ -2,7 +2,7 @@
 
 ghost use Rattle.std.specs.Prelude.{◌≡◌, length};
 ghost use Rattle.listing.specs.Listing.{listed, output_after};
-ghost use Rattle.roundtrip.specs.Compared.{compared, second_after};
+ghost use Rattle.roundtrip.specs.Compared.{compared, second_after, TellsEqual};
 
 use crate::page::front;
 use listing::list::list;
@@ -19,6 +19,7 @@ pub fn have_equal_listings(
     ensures value { result ≡ compared left.now right.now (length text.old) (length other.old) }
     ensures left { text.new ≡ output_after (listed left.now (length text.old)) text.old }
     ensures right { other.new ≡ second_after (listed left.now (length text.old)) (listed right.now (length other.old)) other.old }
+    ensures equal { TellsEqual left.now right.now (length text.old) (length other.old) result }
 {
     let length = list(left, text)?;
     let count = list(right, other)?;

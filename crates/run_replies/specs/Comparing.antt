@@ -1,9 +1,10 @@
 -- What the command compare prints, and the tape of the results under the first permit.
-use Rattle.std.specs.Prelude.{◌≡◌, true, Ok, Err, Result, IfOk}
+use Rattle.std.specs.Prelude.{◌≡◌, true, List, [], Ok, Err, Result, IfOk}
 use Rattle.permit.specs.Open.{AsOpen}
 use Rattle.permit.specs.Rights.{Rights, rights_of}
 use Rattle.permit.specs.declared.permit.Permit.{Permit}
 use Rattle.play.specs.Parting.{Parts}
+use Rattle.play.specs.Watched.{Told, told_of_whole}
 use Rattle.play.specs.Whole.{Orders, Outcome, whole_run}
 use Rattle.play.specs.declared.comparing.Parting.{Parting}
 use Rattle.play.specs.declared.refusal.Refusal.{Refusal}
@@ -39,6 +40,12 @@ unfoldable pub ReadTold : Wishes → Extras → Result Rights Reply → Result R
 ReadTold w x (Ok p) (Ok q) r = BothTold w x p q r
 ReadTold w x (Ok p) (Err refusal) r = r ≡ not_run refusal
 ReadTold w x (Err refusal) other r = r ≡ not_run refusal
+
+-- what is told of the run under the first permit while it goes on, if both are read
+abbrev pub told_of_first : Wishes → Result Rights Reply → Result Rights Reply → List Told
+told_of_first w (Ok p) (Ok q) = told_of_whole (orders_with w p)
+told_of_first w (Ok p) (Err refusal) = []
+told_of_first w (Err refusal) other = []
 
 -- where the program is run, all is done
 unfoldable pub IsDoneWhereRun : Orders → Running → Type 0

@@ -3,6 +3,7 @@ use Rattle.std.specs.Prelude.{ℕ, Bool, true, false, List, [], ◌++◌, Some, 
 use Rattle.std.specs.Global.{Global}
 use Rattle.permit.specs.Rights.{Rights}
 use Rattle.play.specs.Traced.{traced_by}
+use Rattle.play.specs.Watched.{Told, told_of_whole}
 use Rattle.play.specs.Whole.{Orders, Outcome, ready, whole_run}
 use Rattle.play.specs.declared.refusal.Refusal.{Refusal}
 use Rattle.reply.specs.Replies.{Reply, done, shown}
@@ -64,6 +65,14 @@ run_with w x (Err r) = not_run r
 
 abbrev pub running : Wishes → Option Named → Extras → Running
 running w file x = run_with w x (permit_given file)
+
+-- what is told of the run while it goes on
+abbrev pub told_with : Wishes → Result Rights Reply → List Told
+told_with w (Ok p) = told_of_whole (orders_with w p)
+told_with w (Err r) = []
+
+abbrev pub told_of_running : Wishes → Option Named → List Told
+told_of_running w file = told_with w (permit_given file)
 
 -- answers of the code
 abbrev pub shown_tape : Option (Vec ℕ Global) → Option (List ℕ)

@@ -3,8 +3,9 @@
 ghost use Rattle.std.specs.Prelude.{◌≡◌, IfOk, Ok, true};
 ghost use Rattle.permit.specs.Open.{AsOpen};
 ghost use Rattle.permit.specs.Rights.{rights_of};
+ghost use Rattle.play.specs.Watched.{told_of_whole, Hears};
 ghost use Rattle.play.specs.Whole.{orders_of, shown as outcome_of};
-ghost use Rattle.run_replies.specs.Comparing.{IsDoneWhereOpen, IsDoneWhereRun, PartsTold, ReadTold, RunTold};
+ghost use Rattle.run_replies.specs.Comparing.{told_of_first, IsDoneWhereOpen, IsDoneWhereRun, PartsTold, ReadTold, RunTold};
 ghost use Rattle.run_replies.specs.Permits.{permit_of, shown_permit};
 ghost use Rattle.run_replies.specs.Running.{shown_running};
 ghost use Rattle.run_replies.specs.Wishes.{wishes_of};
@@ -52,6 +53,7 @@ fn compare_under<W: Watch>(
     watch: &mut W,
 ) -> Result<Running, AllocError>
     ensures told { IfOk result (λ r. RunTold (orders_of orders.now) extras orders.now.permit.now second.now (shown_running r)) }
+    ensures heard { Hears W.hears (told_of_whole (orders_of orders.now)) result watch.old watch.new }
     ensures law { AsOpen (rights_of orders.now.permit.now) (rights_of second.now) → IfOk result (λ r. IsDoneWhereRun (orders_of orders.now) (shown_running r)) }
 {
     match play(heap, orders, watch) {
@@ -71,6 +73,8 @@ fn compare_from<W: Watch>(
     watch: &mut W,
 ) -> Result<Running, AllocError>
     ensures told { IfOk result (λ r. ReadTold (wishes_of wishes.now) extras (Ok (rights_of permit.now)) (shown_permit second) (shown_running r)) }
+    ensures heard { let first = Ok (rights_of permit.now) in
+        Hears W.hears (told_of_first (wishes_of wishes.now) first (shown_permit second)) result watch.old watch.new }
     ensures law { IfOk result (λ r. IsDoneWhereOpen (wishes_of wishes.now) (Ok (rights_of permit.now)) (shown_permit second) (shown_running r)) }
 {
     match second {
@@ -90,6 +94,8 @@ fn compare_read<W: Watch>(
     watch: &mut W,
 ) -> Result<Running, AllocError>
     ensures told { IfOk result (λ r. ReadTold (wishes_of wishes.now) extras (shown_permit first) (shown_permit second) (shown_running r)) }
+    ensures heard { let hearing = told_of_first (wishes_of wishes.now) (shown_permit first) (shown_permit second) in
+        Hears W.hears hearing result watch.old watch.new }
     ensures law { IfOk result (λ r. IsDoneWhereOpen (wishes_of wishes.now) (shown_permit first) (shown_permit second) (shown_running r)) }
 {
     match first {
@@ -110,6 +116,8 @@ pub fn compare<W: Watch>(
     watch: &mut W,
 ) -> Result<Running, AllocError>
     ensures told { IfOk result (λ r. ReadTold (wishes_of wishes.now) extras (permit_of first.entry) (permit_of second.entry) (shown_running r)) }
+    ensures heard { let hearing = told_of_first (wishes_of wishes.now) (permit_of first.entry) (permit_of second.entry) in
+        Hears W.hears hearing result watch.old watch.new }
     ensures law { IfOk result (λ r. IsDoneWhereOpen (wishes_of wishes.now) (permit_of first.entry) (permit_of second.entry) (shown_running r)) }
 {
     let one = permit_of(heap, first)?;

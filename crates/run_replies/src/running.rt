@@ -1,9 +1,10 @@
 //! The reply of the command run.
 
 ghost use Rattle.std.specs.Prelude.{◌≡◌, IfOk};
+ghost use Rattle.play.specs.Watched.{told_of_whole, Hears};
 ghost use Rattle.play.specs.Whole.{orders_of, shown};
 ghost use Rattle.run_replies.specs.Permits.{shown_permit};
-ghost use Rattle.run_replies.specs.Running.{dump_lines, first_steps, not_run, ran, ran_page, run_under, run_with, running, shown_running, steps_lines};
+ghost use Rattle.run_replies.specs.Running.{dump_lines, first_steps, not_run, ran, ran_page, run_under, run_with, running, shown_running, steps_lines, told_of_running, told_with};
 ghost use Rattle.reply.specs.Replies.{shown as shown_reply};
 ghost use Rattle.run_replies.specs.Wishes.{wishes_of};
 ghost use Rattle.runs.specs.Machines.{machine_of};
@@ -108,7 +109,8 @@ fn run_under<W: Watch>(
     extras: Extras,
     watch: &mut W,
 ) -> Result<Running, AllocError>
-    ensures { IfOk result (λ r. shown_running r ≡ run_under (orders_of orders.now) extras) }
+    ensures told { IfOk result (λ r. shown_running r ≡ run_under (orders_of orders.now) extras) }
+    ensures heard { Hears W.hears (told_of_whole (orders_of orders.now)) result watch.old watch.new }
 {
     match play(heap, orders, watch) {
         Ok(played) => {
@@ -128,7 +130,8 @@ fn run_with<W: Watch>(
     extras: Extras,
     watch: &mut W,
 ) -> Result<Running, AllocError>
-    ensures { IfOk result (λ r. shown_running r ≡ run_with (wishes_of wishes.now) extras (shown_permit permit)) }
+    ensures told { IfOk result (λ r. shown_running r ≡ run_with (wishes_of wishes.now) extras (shown_permit permit)) }
+    ensures heard { Hears W.hears (told_with (wishes_of wishes.now) (shown_permit permit)) result watch.old watch.new }
 {
     match permit {
         Ok(permit) => run_under(heap, &wishes.orders(&permit), extras, watch),
@@ -145,7 +148,8 @@ pub fn run<W: Watch>(
     extras: Extras,
     watch: &mut W,
 ) -> Result<Running, AllocError>
-    ensures { IfOk result (λ r. shown_running r ≡ running (wishes_of wishes.now) permit.entry extras) }
+    ensures told { IfOk result (λ r. shown_running r ≡ running (wishes_of wishes.now) permit.entry extras) }
+    ensures heard { Hears W.hears (told_of_running (wishes_of wishes.now) permit.entry) result watch.old watch.new }
 {
     let permit = permit_given(heap, permit)?;
     run_with(heap, wishes, permit, extras, watch)

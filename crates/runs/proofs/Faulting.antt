@@ -24,7 +24,7 @@ ended_fault : (s : State) (a : Result After Cause) (f : Fault) → (ended s a).t
 ended_fault s (Ok x) f e = cc
 ended_fault s (Err q) f e = refl
 
-fault_keeps : (r : Rules) (s : State) (f : Fault) → (stepped r s).turn ≡ Err f → (stepped r s).state ≡ s
+pub fault_keeps : (r : Rules) (s : State) (f : Fault) → (stepped r s).turn ≡ Err f → (stepped r s).state ≡ s
 unfolding stepped
 fault_keeps r s f e = ended_fault s _ f e
 

@@ -1,11 +1,10 @@
 -- A list of requests is one run of the summed budget.
-use Rattle.std.proofs.Common.{◌≡◌, ℕ, ◌+◌, ◌≤◌, Bool, true, false, List, [], ◌∷◌, length, Ok, Err, Result, Some, None, Option, refl, sym, ap, ◌∙◌, arith, rules, ◌==◌}
-use Rattle.permit.specs.Rights.{Rights}
-use Rattle.runs.specs.Parts.{Total, joined, after_runs, budget_of, after_run_by, after_answer, parts, OneRunOfTheSum}
-use Rattle.runs.specs.Requests.{told, seen, emptied, answered}
+use Rattle.std.proofs.Common.{◌≡◌, ℕ, ◌+◌, ◌≤◌, Bool, true, false, List, [], ◌∷◌, length, Ok, Err, Result, Some, None, Option, refl, sym, ap, ◌∙◌, subst, arith, rules}
+use Rattle.permit.specs.Rights.{Rights, rights_of}
+use Rattle.runs.specs.Parts.{Total, joined, after_runs, budget_of, only, after_run_by, after_answer, answered_under, parts, AllOther, WhereSpent, WhereTaken, RunsUnder, OneRunOfTheSum, LeavesOther}
+use Rattle.runs.specs.Requests.{told, seen, answered_with, cells_in, IsOther}
 use Rattle.runs.specs.Runs.{Held, held, Called, called, called_by, run_asked}
 use Rattle.runs.specs.declared.refusal.CallRefusal.{CallRefusal}
-use Rattle.runs.specs.declared.refusal.CallRefusal.TheVariants.{OtherMemory}
 use Rattle.runs.specs.declared.report.Ending.{Ending}
 use Rattle.runs.specs.declared.report.Ending.TheVariants.{Spent, Halted, Exited, Fault as Faulted}
 use Rattle.runs.specs.declared.report.Report.{Report}
@@ -13,23 +12,26 @@ use Rattle.runs.specs.declared.request.Answer.{Answer}
 use Rattle.runs.specs.declared.request.Answer.TheVariants.{Ran, Saw, Refused}
 use Rattle.runs.specs.declared.request.Call.{Call}
 use Rattle.runs.specs.declared.request.Call.TheVariants.{Run, Register, Flags, Cell}
-use Rattle.runs.specs.declared.request.Request.{Request}
+use Rattle.runs.specs.declared.request.Memory.{Memory}
+use Rattle.runs.specs.declared.request.Memory.TheVariants.{Own, Other}
+use Rattle.runs.specs.declared.request.PermittedRequest.{PermittedRequest}
+use Rattle.runs.proofs.Requested.{is_ran, answered_other, other_answer, other_quiet, size_kept, other_kept}
 use Rattle.runs.proofs.Summed.{called_sum}
 
 -- the requests in turn
-pub parts_none : (p : Rights) (h : Held) → parts p [] h ≡ record { budget = 0; report = None; held = h }
+pub parts_none : (h : Held) (o : List ℕ) → parts [] h o ≡ record { budget = 0; report = None; held = h; other = o }
 unfolding parts
-parts_none p h = refl
+parts_none h o = refl
 
-pub parts_some : (p : Rights) (x : Request) (xs : List Request) (h : Held) → parts p (x ∷ xs) h ≡ after_answer (budget_of x.call) (answered p x h).answer (answered p x h).held (parts p xs (answered p x h).held)
+pub parts_some : (x : PermittedRequest) (xs : List PermittedRequest) (h : Held) (o : List ℕ)
+    → parts (x ∷ xs) h o ≡ after_answer (budget_of x.request.call) (answered_under x h o).answer (answered_under x h o).held (answered_under x h o).other (parts xs (answered_under x h o).held (answered_under x h o).other)
 unfolding parts
-parts_some p x xs h = refl
+parts_some x xs h o = refl
 
--- an answer that no run was taken
-abbrev pub IsRan : Answer → Bool
-IsRan (Ran r) = true
-IsRan (Saw v) = false
-IsRan (Refused q) = false
+runs_some : (p : Rights) (x : PermittedRequest) (xs : List PermittedRequest) (h : Held) (o : List ℕ) → RunsUnder p (x ∷ xs) h o
+    → WhereTaken (answered_under x h o).answer (rights_of x.permit ≡ p) (RunsUnder p xs (answered_under x h o).held (answered_under x h o).other)
+unfolding RunsUnder
+runs_some p x xs h o u = u
 
 -- a run that was taken is the call
 told_ran : (c : Called) (r : Report) → told c.answer ≡ Ran r → ◌≡◌ {A = Called} c (record { answer = Ok r; held = c.held })
@@ -44,89 +46,64 @@ seen_ran : (a : Result ℕ CallRefusal) (r : Report) → seen a ≡ Ran r → �
 seen_ran (Ok v) r e = cc
 seen_ran (Err q) r e = cc
 
--- an empty memory is another one
-pub run_elsewhere : (p : Rights) (b : ℕ) (h : Held) → 1 ≤ h.machine.size → ◌≡◌ {A = Called} (called (record { rights = p; budget = b }) (emptied h)) (record { answer = Err OtherMemory; held = emptied h })
-run_elsewhere p b h large = by (0 == h.machine.size) refl
-  where
-    by : (x : Bool) → (0 == h.machine.size) ≡ x → ◌≡◌ {A = Called} (called (record { rights = p; budget = b }) (emptied h)) (record { answer = Err OtherMemory; held = emptied h })
-    by true e = let no : ⊥ = search (rules, e, large) in absurd no
-    by false e = rw e refl
-
 -- a refused run leaves everything
-run_quiet : (p : Rights) (b : ℕ) (h : Held) (r : Result ℕ CallRefusal) → IsRan (told (called_by h p r).answer) ≡ false → (called_by h p r).held ≡ h
-run_quiet p b h (Ok n) e = cc
-run_quiet p b h (Err q) e = refl
+run_quiet : (p : Rights) (h : Held) (r : Result ℕ CallRefusal) → is_ran (told (called_by h p r).answer) ≡ false → (called_by h p r).held ≡ h
+run_quiet p h (Ok n) e = cc
+run_quiet p h (Err q) e = refl
 
 -- what is no run that was taken leaves everything
-quiet : (p : Rights) (c : Call) (b : Bool) (h : Held) → 1 ≤ h.machine.size → IsRan (answered p (record { call = c; elsewhere = b }) h).answer ≡ false → (answered p (record { call = c; elsewhere = b }) h).held ≡ h
-quiet p (Run n) true h large e = ap (λ c. held c.held.machine h.cells c.held.meaning) (run_elsewhere p n h large)
-quiet p (Register r) true h large e = refl
-quiet p Flags true h large e = refl
-quiet p (Cell a) true h large e = refl
-quiet p (Run n) false h large e = run_quiet p n h (run_asked h.machine (length h.cells) n) e
-quiet p (Register r) false h large e = refl
-quiet p Flags false h large e = refl
-quiet p (Cell a) false h large e = refl
+quiet : (p : Rights) (c : Call) (m : Memory) (h : Held) (o : List ℕ) → IsOther h.machine.size o m → is_ran (answered_with p c m h o).answer ≡ false → (answered_with p c m h o).held ≡ h
+quiet p c (Other part) h o apart e = ap (λ a. a.held) (answered_other p c part h o apart)
+quiet p (Run n) Own h o apart e = run_quiet p h (run_asked h.machine (length h.cells) n) e
+quiet p (Register r) Own h o apart e = refl
+quiet p Flags Own h o apart e = refl
+quiet p (Cell a) Own h o apart e = refl
 
 -- a run that was taken is a run with the machine's own memory
-own_run : (p : Rights) (c : Call) (b : Bool) (h : Held) (r : Report) → 1 ≤ h.machine.size → (answered p (record { call = c; elsewhere = b }) h).answer ≡ Ran r → called (record { rights = p; budget = budget_of c }) h ≡ record { answer = Ok r; held = (answered p (record { call = c; elsewhere = b }) h).held }
-own_run p (Run n) true h r large e = absurd (apart (ap (λ c. told c.answer) (sym (run_elsewhere p n h large)) ∙ e))
+own_run : (p : Rights) (c : Call) (m : Memory) (h : Held) (o : List ℕ) (r : Report) → IsOther h.machine.size o m → (answered_with p c m h o).answer ≡ Ran r
+    → called (record { rights = p; budget = budget_of c }) h ≡ record { answer = Ok r; held = (answered_with p c m h o).held }
+own_run p c (Other part) h o r apart e = absurd (no_run (sym (other_quiet c (held h.machine (cells_in part o) h.meaning)) ∙ ap is_ran (sym (ap (λ a. a.answer) (answered_other p c part h o apart)) ∙ e)))
   where
-    apart : Refused OtherMemory ≡ Ran r → ⊥
-    apart i = cc
-own_run p (Register k) true h r large e = absurd (seen_ran _ r e)
-own_run p Flags true h r large e = absurd (apart e)
+    no_run : false ≡ true → ⊥
+    no_run i = cc
+own_run p (Run n) Own h o r apart e = told_ran (called (record { rights = p; budget = n }) h) r e
+own_run p (Register k) Own h o r apart e = absurd (seen_ran _ r e)
+own_run p Flags Own h o r apart e = absurd (looked e)
   where
-    apart : Saw h.machine.core.flags ≡ Ran r → ⊥
-    apart i = cc
-own_run p (Cell a) true h r large e = absurd (seen_ran _ r e)
-own_run p (Run n) false h r large e = told_ran (called (record { rights = p; budget = n }) h) r e
-own_run p (Register k) false h r large e = absurd (seen_ran _ r e)
-own_run p Flags false h r large e = absurd (apart e)
-  where
-    apart : Saw h.machine.core.flags ≡ Ran r → ⊥
-    apart i = cc
-own_run p (Cell a) false h r large e = absurd (seen_ran _ r e)
+    looked : Saw h.machine.core.flags ≡ Ran r → ⊥
+    looked i = cc
+own_run p (Cell a) Own h o r apart e = absurd (seen_ran _ r e)
 
--- a call keeps the memory's size
-run_size : (h : Held) (p : Rights) (r : Result ℕ CallRefusal) → (called_by h p r).held.machine.size ≡ h.machine.size
-run_size h p (Ok n) = refl
-run_size h p (Err q) = refl
-
-pub size_kept : (p : Rights) (c : Call) (b : Bool) (h : Held) → (answered p (record { call = c; elsewhere = b }) h).held.machine.size ≡ h.machine.size
-size_kept p (Run n) true h = run_size (emptied h) p (run_asked h.machine 0 n)
-size_kept p (Register r) true h = refl
-size_kept p Flags true h = refl
-size_kept p (Cell a) true h = refl
-size_kept p (Run n) false h = run_size h p (run_asked h.machine (length h.cells) n)
-size_kept p (Register r) false h = refl
-size_kept p Flags false h = refl
-size_kept p (Cell a) false h = refl
-
-still_large : (p : Rights) (x : Request) (h : Held) → 1 ≤ h.machine.size → 1 ≤ (answered p x h).held.machine.size
-still_large p x h large = rw (size_kept p x.call x.elsewhere h) large
+-- what is handed in afterwards is another memory still
+still_other : (x : PermittedRequest) (xs : List PermittedRequest) (h : Held) (o : List ℕ) → IsOther h.machine.size o x.request.memory → AllOther h.machine.size o xs
+    → AllOther (answered_under x h o).held.machine.size (answered_under x h o).other xs
+still_other x xs h o apart rest =
+    rw (size_kept (rights_of x.permit) x.request.call x.request.memory h o apart, other_kept (rights_of x.permit) x.request.call x.request.memory h o apart) rest
 
 -- where no run was taken, nothing is left different
-nothing_by : (b : ℕ) (a : Answer) (h here : Held) (t : Total) → (IsRan a ≡ false → here ≡ h) → (t.report ≡ None → (t.budget ≡ 0) × (t.held ≡ here)) → (after_answer b a here t).report ≡ None → ((after_answer b a here t).budget ≡ 0) × ((after_answer b a here t).held ≡ h)
-nothing_by b (Saw v) h here t same rest e = ((rest e).0, (rest e).1 ∙ same refl)
-nothing_by b (Refused q) h here t same rest e = ((rest e).0, (rest e).1 ∙ same refl)
-nothing_by b (Ran r) h here t same rest e = absurd (by r.ending t.report e)
+nothing_by : (b : ℕ) (a : Answer) (h here : Held) (o : List ℕ) (t : Total) → (is_ran a ≡ false → here ≡ h) → (t.report ≡ None → (t.budget ≡ 0) × (t.held ≡ here)) → (after_answer b a here o t).report ≡ None
+    → ((after_answer b a here o t).budget ≡ 0) × ((after_answer b a here o t).held ≡ h)
+nothing_by b (Saw v) h here o t same rest e = ((rest e).0, (rest e).1 ∙ same refl)
+nothing_by b (Refused q) h here o t same rest e = ((rest e).0, (rest e).1 ∙ same refl)
+nothing_by b (Ran r) h here o t same rest e = absurd (by r.ending t.report e)
   where
-    by : (f : Ending) (o : Option Report) → (after_run_by f b r here t).report ≡ None → ⊥
-    by Spent o i = joined_some t.report i
+    by : (f : Ending) (k : Option Report) → (after_run_by f b r here o t).report ≡ None → ⊥
+    by Spent k i = joined_some t.report i
       where
-        joined_some : (o : Option Report) → joined (Some r) o ≡ None → ⊥
-        joined_some None k = cc
-        joined_some (Some s) k = cc
-    by Halted o i = cc
-    by (Exited c) o i = cc
-    by (Faulted f) o i = cc
+        joined_some : (k : Option Report) → joined (Some r) k ≡ None → ⊥
+        joined_some None j = cc
+        joined_some (Some s) j = cc
+    by Halted k i = cc
+    by (Exited c) k i = cc
+    by (Faulted f) k i = cc
 
-nothing_taken : (p : Rights) (xs : List Request) (h : Held) → 1 ≤ h.machine.size → (parts p xs h).report ≡ None → ((parts p xs h).budget ≡ 0) × ((parts p xs h).held ≡ h)
-nothing_taken p [] h large e = (ap (λ t. t.budget) (parts_none p h), ap (λ t. t.held) (parts_none p h))
-nothing_taken p (x ∷ xs) h large e =
-    let n = nothing_by (budget_of x.call) (answered p x h).answer h (answered p x h).held (parts p xs (answered p x h).held) (quiet p x.call x.elsewhere h large) (nothing_taken p xs (answered p x h).held (still_large p x h large)) (sym (ap (λ t. t.report) (parts_some p x xs h)) ∙ e) in
-    (ap (λ t. t.budget) (parts_some p x xs h) ∙ n.0, ap (λ t. t.held) (parts_some p x xs h) ∙ n.1)
+nothing_taken : (xs : List PermittedRequest) (h : Held) (o : List ℕ) → AllOther h.machine.size o xs → (parts xs h o).report ≡ None → ((parts xs h o).budget ≡ 0) × ((parts xs h o).held ≡ h)
+nothing_taken [] h o others e = (ap (λ t. t.budget) (parts_none h o), ap (λ t. t.held) (parts_none h o))
+nothing_taken (x ∷ xs) h o others e =
+    let a = answered_under x h o in
+    let n = nothing_by (budget_of x.request.call) a.answer h a.held a.other (parts xs a.held a.other) (quiet (rights_of x.permit) x.request.call x.request.memory h o others.0)
+    (nothing_taken xs a.held a.other (still_other x xs h o others.0 others.1)) (sym (ap (λ t. t.report) (parts_some x xs h o)) ∙ e) in
+    (ap (λ t. t.budget) (parts_some x xs h o) ∙ n.0, ap (λ t. t.held) (parts_some x xs h o) ∙ n.1)
 
 -- the law, for one part after another
 abbrev Law : Rights → Held → Total → Type 0
@@ -149,26 +126,50 @@ spent_first p b h here r₀ t (Some s) e is so law nothing r some low =
     ∙ ap (λ x. record { answer = Ok x; held = t.held }) same
 
 -- a run, by how it ended
-run_first : (p : Rights) (b : ℕ) (h here : Held) (r₀ : Report) (t : Total) (e : Ending) → r₀.ending ≡ e
+run_first : (p : Rights) (b : ℕ) (h here : Held) (o : List ℕ) (r₀ : Report) (t : Total) (e : Ending) (rest : Type 0) → r₀.ending ≡ e → WhereSpent e rest
     → ◌≡◌ {A = Called} (called (record { rights = p; budget = b }) h) (record { answer = Ok r₀; held = here })
-    → Law p here t → (t.report ≡ None → (t.budget ≡ 0) × (t.held ≡ here)) → Law p h (after_run_by e b r₀ here t)
-run_first p b h here r₀ t Spent so is law nothing r some low = spent_first p b h here r₀ t t.report refl is so law nothing r some low
-run_first p b h here r₀ t Halted so is law nothing r some low = let same : r₀ ≡ r = cc in is ∙ ap (λ x. record { answer = Ok x; held = here }) same
-run_first p b h here r₀ t (Exited c) so is law nothing r some low = let same : r₀ ≡ r = cc in is ∙ ap (λ x. record { answer = Ok x; held = here }) same
-run_first p b h here r₀ t (Faulted f) so is law nothing r some low = let same : r₀ ≡ r = cc in is ∙ ap (λ x. record { answer = Ok x; held = here }) same
+    → (rest → Law p here t) → (t.report ≡ None → (t.budget ≡ 0) × (t.held ≡ here)) → Law p h (after_run_by e b r₀ here o t)
+run_first p b h here o r₀ t Spent rest so under is law nothing r some low = spent_first p b h here r₀ t t.report refl is so (law under) nothing r some low
+run_first p b h here o r₀ t Halted rest so under is law nothing r some low = let same : r₀ ≡ r = cc in is ∙ ap (λ x. record { answer = Ok x; held = here }) same
+run_first p b h here o r₀ t (Exited c) rest so under is law nothing r some low = let same : r₀ ≡ r = cc in is ∙ ap (λ x. record { answer = Ok x; held = here }) same
+run_first p b h here o r₀ t (Faulted f) rest so under is law nothing r some low = let same : r₀ ≡ r = cc in is ∙ ap (λ x. record { answer = Ok x; held = here }) same
 
 -- an answer, and what follows it
-answer_first : (p : Rights) (b : ℕ) (a : Answer) (h here : Held) (t : Total)
-    → ((r : Report) → a ≡ Ran r → ◌≡◌ {A = Called} (called (record { rights = p; budget = b }) h) (record { answer = Ok r; held = here }))
-    → (IsRan a ≡ false → here ≡ h) → Law p here t → (t.report ≡ None → (t.budget ≡ 0) × (t.held ≡ here)) → Law p h (after_answer b a here t)
-answer_first p b (Ran r₀) h here t ran same law nothing r some low = run_first p b h here r₀ t r₀.ending refl (ran r₀ refl) law nothing r some low
-answer_first p b (Saw v) h here t ran same law nothing r some low = ap (called (record { rights = p; budget = t.budget })) (sym (same refl)) ∙ law r some low
-answer_first p b (Refused q) h here t ran same law nothing r some low = ap (called (record { rights = p; budget = t.budget })) (sym (same refl)) ∙ law r some low
+answer_first : (p q : Rights) (b : ℕ) (a : Answer) (h here : Held) (o : List ℕ) (t : Total) (rest : Type 0)
+    → ((r : Report) → a ≡ Ran r → ◌≡◌ {A = Called} (called (record { rights = q; budget = b }) h) (record { answer = Ok r; held = here }))
+    → (is_ran a ≡ false → here ≡ h) → WhereTaken a (q ≡ p) rest → (rest → Law p here t) → (t.report ≡ None → (t.budget ≡ 0) × (t.held ≡ here)) → Law p h (after_answer b a here o t)
+answer_first p q b (Ran r₀) h here o t rest ran same under law nothing r some low =
+    run_first p b h here o r₀ t r₀.ending rest refl under.1 (ap (λ (k : Rights). called (record { rights = k; budget = b }) h) (sym under.0) ∙ ran r₀ refl) law nothing r some low
+answer_first p q b (Saw v) h here o t rest ran same under law nothing r some low = ap (called (record { rights = p; budget = t.budget })) (sym (same refl)) ∙ law under r some low
+answer_first p q b (Refused f) h here o t rest ran same under law nothing r some low = ap (called (record { rights = p; budget = t.budget })) (sym (same refl)) ∙ law under r some low
 
 -- all runs of a list are one run of the summed budget
-pub one_run : (p : Rights) (xs : List Request) (h : Held) → 1 ≤ h.machine.size → OneRunOfTheSum p xs h
-one_run p [] h large r some low = let no = rw (parts_none p h) at some in cc
-one_run p (x ∷ xs) h large r some low =
-    rw (parts_some p x xs h) (answer_first p (budget_of x.call) (answered p x h).answer h (answered p x h).held (parts p xs (answered p x h).held)
-    (λ r e. own_run p x.call x.elsewhere h r large e) (quiet p x.call x.elsewhere h large)
-    (one_run p xs (answered p x h).held (still_large p x h large)) (nothing_taken p xs (answered p x h).held (still_large p x h large)) r (rw (parts_some p x xs h) at some) (rw (parts_some p x xs h) at low))
+pub one_run : (p : Rights) (xs : List PermittedRequest) (h : Held) (o : List ℕ) → OneRunOfTheSum p xs h o
+one_run p [] h o others under r some low = let no = rw (parts_none h o) at some in cc
+one_run p (x ∷ xs) h o others under r some low =
+    let a = answered_under x h o in
+    let later = still_other x xs h o others.0 others.1 in
+    rw (parts_some x xs h o) (answer_first p (rights_of x.permit) (budget_of x.request.call) a.answer h a.held a.other (parts xs a.held a.other) (RunsUnder p xs a.held a.other)
+    (λ r e. own_run (rights_of x.permit) x.request.call x.request.memory h o r others.0 e) (quiet (rights_of x.permit) x.request.call x.request.memory h o others.0)
+    (runs_some p x xs h o under) (one_run p xs a.held a.other later) (nothing_taken xs a.held a.other later) r (rw (parts_some x xs h o) at some) (rw (parts_some x xs h o) at low))
+
+-- the other memory after an answer, and after what follows it
+other_first : (b : ℕ) (a : Answer) (here : Held) (o : List ℕ) (t : Total) → t.other ≡ o → (after_answer b a here o t).other ≡ o
+other_first b (Saw v) here o t same = same
+other_first b (Refused q) here o t same = same
+other_first b (Ran r) here o t same = by r.ending
+  where
+    by : (e : Ending) → (after_run_by e b r here o t).other ≡ o
+    by Spent = same
+    by Halted = refl
+    by (Exited c) = refl
+    by (Faulted f) = refl
+
+-- the other memory is never written
+pub leaves_other : (xs : List PermittedRequest) (h : Held) (o : List ℕ) → LeavesOther xs h o
+leaves_other [] h o others = ap (λ t. t.other) (parts_none h o)
+leaves_other (x ∷ xs) h o others =
+    let a = answered_under x h o in
+    ap (λ t. t.other) (parts_some x xs h o)
+    ∙ other_first (budget_of x.request.call) a.answer a.held a.other (parts xs a.held a.other) (leaves_other xs a.held a.other (still_other x xs h o others.0 others.1))
+    ∙ other_kept (rights_of x.permit) x.request.call x.request.memory h o others.0

@@ -1,12 +1,14 @@
-pub mod Causes
+pub mod Agreeing
 pub mod Comparing
 pub mod Exits
 pub mod Faulting
 pub mod InParts
+pub mod InTurn
 pub mod Larger
 pub mod Loads
 pub mod Opens
 pub mod Playing
+pub mod Requested
 pub mod Runs
 pub mod Summed
 pub mod Wider

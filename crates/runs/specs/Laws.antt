@@ -54,7 +54,7 @@ SameUnderWiderPermits s h =
     (q : Rights) → Wider s.rights q → ended_so by_permit (called s h).answer ≡ false
     → called (record { rights = q; budget = s.budget }) h ≡ called s h
 
--- where a run ends in a permit fault, the machine under a wider permit, given its count as budget, ends spent and holds the same
+-- where a permit fault ends a run after n steps, a budget of n is used up under every wider permit, and the same is left
 abbrev pub SpentAtPermitFaults : Settings → Held → Type 0
 SpentAtPermitFaults s h =
     (q : Rights) → Wider s.rights q → (n : ℕ) (f : Fault) → (called s h).answer ≡ Ok (record { steps = n; ending = Faulted f }) → is_permit_fault f.cause ≡ true

@@ -1,3 +1,4 @@
+pub mod Agreement
 pub mod Both
 pub mod Compared
 pub mod Laws
@@ -6,5 +7,7 @@ pub mod Looks
 pub mod Machines
 pub mod Numbers
 pub mod Parts
+pub mod Questions
 pub mod Requests
 pub mod Runs
+pub mod Steps

@@ -3,16 +3,16 @@ use Rattle.std.specs.Prelude.{◌≡◌, ℕ, ◌+◌, ◌/◌, ◌<◌, ◌≤�
 use Rattle.machine.specs.Cores.{in_register}
 use Rattle.std.specs.List.{range_with_len}
 use Rattle.executable.specs.Bytes.{words_of}
-use Rattle.executable.specs.Check.{Parts, checked}
-use Rattle.executable.specs.Questions.{asked}
+use Rattle.executable.specs.Check.{Parts, checked, contents}
+use Rattle.executable.specs.Questions.{asked, rank_of}
+use Rattle.executable.specs.declared.parts.Executable as parts
 use Rattle.executable.specs.declared.refusal.Refusal.{Refusal}
 use Rattle.runs.specs.Machines.{Machine, machine_of, new_machine}
-use Rattle.runs.specs.Numbers.{load_number}
 use Rattle.runs.specs.declared.loaded.Machine as code
 use Rattle.runs.specs.declared.refusal.LoadRefusal.{LoadRefusal}
 use Rattle.runs.specs.declared.refusal.LoadRefusal.TheVariants.{Executable, Memory}
 
--- 29: has the memory 1,024 to 1,048,576 cells, with all words, the first instruction and the stack pointer inside it?
+-- 29: has the memory from 1,024 up to 1,048,576 cells, and do words, start and stack pointer lie in it?
 abbrev pub memory_fits : Parts → ℕ → Bool
 memory_fits p size =
     nat_le 1024 size && (nat_le size 1048576
@@ -31,6 +31,17 @@ load_parts size (Err q) = Err (Executable q)
 -- 20 to 26, then 29, and then the machine
 abbrev pub loaded : List ℕ → ℕ → Result Machine LoadRefusal
 loaded bs size = load_parts size (checked bs)
+
+-- accepted parts of some bytes that fit into a memory of some size
+pub record Fits (bs : List ℕ) (size : ℕ) (p : Parts) : Type 0 where
+  pub parts : checked bs ≡ Ok p
+  pub long : 512 ≤ length bs
+  pub memory : memory_fits p size ≡ true
+
+-- what is found out before a memory is filled: the parts of an executable that fits, or why none is loaded
+abbrev pub Admits : List ℕ → ℕ → Result parts.Executable LoadRefusal → Type 0
+Admits bs size (Ok e) = Fits bs size (contents e)
+Admits bs size (Err q) = loaded bs size ≡ Err q
 
 -- an answer of the code
 abbrev pub shown : Result code.Machine LoadRefusal → Result Machine LoadRefusal
@@ -54,10 +65,15 @@ load_asked Memory bs size = fits_by (checked bs)
     fits_by (Ok p) = memory_fits p size
     fits_by (Err q) = false
 
--- a machine is loaded where every question gets a yes; a refusal's own question gets a no, and each with a smaller number a yes
+-- the place of each question in the order of asking: the memory is asked about after all questions of the check
+abbrev pub load_rank : LoadRefusal → ℕ
+load_rank (Executable q) = rank_of q
+load_rank Memory = 7
+
+-- a machine is loaded where every question gets a yes; a refusal's own question gets a no, and each that is asked before it a yes
 abbrev pub LoadsFirstNo : List ℕ → ℕ → Result Machine LoadRefusal → Type 0
 LoadsFirstNo bs size (Ok m) = (q : LoadRefusal) → load_asked q bs size ≡ true
-LoadsFirstNo bs size (Err q) = (load_asked q bs size ≡ false) × ((p : LoadRefusal) → load_number p < load_number q → load_asked p bs size ≡ true)
+LoadsFirstNo bs size (Err q) = (load_asked q bs size ≡ false) × ((p : LoadRefusal) → load_rank p < load_rank q → load_asked p bs size ≡ true)
 
 -- a machine as it is loaded: its next instruction, its stack pointer and all words of its program are inside memory
 pub record IsInside (m : Machine) : Type 0 where

@@ -66,7 +66,7 @@ pub record Held : Type 0 where
 abbrev pub held : Machine → List ℕ → Meaning → Held
 held m c h = record { machine = m; cells = c; meaning = h }
 
--- 50: is the memory as long as at loading? 51: has the machine not exited? 52: is the budget at most 100,000,000?
+-- 50: has the memory as many cells as when the machine was loaded? 51: has no run of it ended in an exit? 52: is the budget 100,000,000 steps or fewer?
 abbrev pub run_asked : Machine → ℕ → ℕ → Result ℕ CallRefusal
 run_asked m size budget =
     cond (size == m.size)

@@ -24,10 +24,11 @@ pub enum Outcome {
     Different { at: usize },
 }
 
-/// What came of it, and the two machines after it.
+/// What came of it, how many calls both answered alike before that, and the two machines after it.
 #[derive(Clone, Copy)]
 pub struct Comparison {
     pub outcome: Outcome,
+    pub agreed: usize,
     pub first: Machine,
     pub second: Machine,
 }

@@ -11,7 +11,6 @@ pub mod calls;
 pub(crate) mod comparing;
 mod parts;
 mod running;
-mod sameness;
 
 /// A processor, where the parts of its program are, how many cells its memory had at loading, and whether its program has
 /// exited. The memory stays with the caller, who hands it to each call.

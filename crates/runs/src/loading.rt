@@ -1,9 +1,9 @@
 //! Loading an executable into a lent memory.
 
-ghost use Rattle.std.specs.Prelude.{◌≡◌, length, IfOk};
+ghost use Rattle.std.specs.Prelude.{◌≡◌, length, IfErr, IfOk, Err, Ok};
 ghost use Rattle.runs.specs.Machines.{machine_of};
 ghost use Rattle.executable.specs.Check.{contents};
-ghost use Rattle.runs.specs.Loading.{loaded, shown, cells_after, fill, memory_fits, IsInside, LoadsFirstNo};
+ghost use Rattle.runs.specs.Loading.{loaded, shown, cells_after, fill, memory_fits, Admits, Fits, IsInside, LoadsFirstNo};
 
 use crate::loaded::Machine;
 use crate::refusal::LoadRefusal;
@@ -31,19 +31,38 @@ fn fill(words: &[u8], cells: &mut [u32])
     }
 }
 
+/// The parts of an executable that fits into a memory of some size, or the first question about them with a no.
+pub(crate) fn admit(bytes: &[u8], size: usize) -> Result<Executable<'_>, LoadRefusal>
+    ensures value { Admits bytes.now size result }
+    ensures first { IfErr result (λ q. LoadsFirstNo bytes.now size (Err q)) }
+{
+    let executable = check(bytes)?;
+    if !memory_fits(&executable, size) {
+        return Err(LoadRefusal::Memory);
+    }
+    Ok(executable)
+}
+
 impl Machine {
-    /// Loads an executable: code and constants go to the cells from 0 on, and zeros after them.
+    /// Fills a memory with an executable that fits into it, and gives its machine.
+    pub(crate) fn fill_with(bytes: &[u8], executable: &Executable<'_>, cells: &mut [u32]) -> Machine
+        requires { Fits bytes.now (length cells.old) (contents executable.now) }
+        ensures value { loaded bytes.now (length cells.old) ≡ Ok (machine_of result) }
+        ensures cells { cells.new ≡ cells_after bytes.now cells.old }
+    {
+        fill(&bytes[512..], cells);
+        Machine::new(executable, cells.len())
+    }
+
+    /// Loads an executable: code and constants go to the cells from 0 on, and zeros after them. A refusal writes
+    /// nothing.
     pub fn load(bytes: &[u8], cells: &mut [u32]) -> Result<Machine, LoadRefusal>
         ensures value { shown result ≡ loaded bytes.now (length cells.old) }
         ensures cells { cells.new ≡ cells_after bytes.now cells.old }
         ensures inside { IfOk result (λ m. IsInside (machine_of m)) }
         ensures first { LoadsFirstNo bytes.now (length cells.old) (shown result) }
     {
-        let executable = check(bytes)?;
-        if !memory_fits(&executable, cells.len()) {
-            return Err(LoadRefusal::Memory);
-        }
-        fill(&bytes[512..], cells);
-        Ok(Machine::new(&executable, cells.len()))
+        let executable = admit(bytes, cells.len())?;
+        Ok(Machine::fill_with(bytes, &executable, cells))
     }
 }

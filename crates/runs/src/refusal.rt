@@ -11,7 +11,7 @@ use executable::refusal::Refusal;
 pub enum LoadRefusal {
     /// 20 to 26: what the check of an executable asks.
     Executable(Refusal),
-    /// 29: has the memory 1,024 to 1,048,576 cells, with all words, the first instruction and the stack pointer inside it?
+    /// 29: has the memory from 1,024 up to 1,048,576 cells, and do words, start and stack pointer lie in it?
     Memory,
 }
 
@@ -38,11 +38,11 @@ impl From<Refusal> for LoadRefusal {
 /// The question about a run or a look that gets a no first.
 #[derive(Clone, Copy, PartialEq, Eq)]
 pub enum CallRefusal {
-    /// Is the memory as long as at loading?
+    /// Has the memory as many cells as when the machine was loaded?
     OtherMemory = 50,
-    /// Has the machine not exited?
+    /// Has no run of the machine ended in an exit?
     HasExited = 51,
-    /// Is the budget at most 100,000,000?
+    /// Is the budget 100,000,000 steps or fewer?
     BudgetTooLarge = 52,
     /// Is there such a register or cell?
     OutOfRange = 53,

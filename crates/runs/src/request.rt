@@ -2,6 +2,7 @@
 
 use crate::refusal::CallRefusal;
 use crate::report::Report;
+use permit::permit::Permit;
 
 /// A run of so many steps at most, or a look at a register, at the flags, or at a cell.
 #[derive(Clone, Copy)]
@@ -12,16 +13,37 @@ pub enum Call {
     Cell(u64),
 }
 
-/// A call, with the machine's own memory or with an empty one, which is of another length than any that a machine was loaded
-/// into.
+/// Some cells of a memory: `len` of them from `start` on, or as many as there are.
+#[derive(Clone, Copy)]
+pub struct Part {
+    pub start: usize,
+    pub len: usize,
+}
+
+/// The memory that is handed to a call: the machine's own, or a part of another one. A part that is not as long as the
+/// machine's memory at loading is refused by every call that uses cells.
+#[derive(Clone, Copy)]
+pub enum Memory {
+    Own,
+    Other(Part),
+}
+
+/// A call, and the memory that is handed in.
 #[derive(Clone, Copy)]
 pub struct Request {
     pub call: Call,
-    pub elsewhere: bool,
+    pub memory: Memory,
+}
+
+/// A request, and the permit under which it is answered.
+#[derive(Clone, Copy)]
+pub struct PermittedRequest {
+    pub request: Request,
+    pub permit: Permit,
 }
 
 /// What a machine answers.
-#[derive(Clone, Copy)]
+#[derive(Clone, Copy, PartialEq, Eq)]
 pub enum Answer {
     /// A run was taken.
     Ran(Report),

@@ -3,7 +3,7 @@
 use crate::check::compare_lists;
 use permit::permit::Permit;
 use runs::comparison::Pairing;
-use runs::request::{Call, Request};
+use runs::request::{Call, Memory, Part, Request};
 
 /// How many calls are made.
 const CALLS: u32 = 10_000;
@@ -27,6 +27,19 @@ fn call_of(number: u32) -> Call {
     }
 }
 
+/// The memory that is handed in: for one call of five a part of another one, which is longer or shorter than the machine's own.
+fn memory_of(number: u32) -> Memory {
+    let start = (number % 1_500) as usize;
+    match number % 10 {
+        0 => Memory::Other(Part { start, len: 500 }),
+        5 => Memory::Other(Part {
+            start: start % 900,
+            len: 1_100,
+        }),
+        _ => Memory::Own,
+    }
+}
+
 /// Makes the calls of a machine over a tape and of one over a sheet, and prints whether they agree.
 pub(crate) fn play_calls(rt: &HostRuntime, executable: &[u8]) -> anyhow::Result<()> {
     println!(rt; "{CALLS} calls in a bad order:")?;
@@ -39,7 +52,7 @@ pub(crate) fn play_calls(rt: &HostRuntime, executable: &[u8]) -> anyhow::Result<
         pairings.push(Pairing {
             request: Request {
                 call: call_of(number),
-                elsewhere: number % 5 == 0,
+                memory: memory_of(number),
             },
             first: permit,
             second: permit,

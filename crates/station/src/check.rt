@@ -7,11 +7,11 @@ use host::lent_host::LentHost;
 use host::record::Record;
 use host::transcript::write_items;
 use permit::permit::Permit;
-use runs::comparison::{Outcome, Pairing};
+use runs::comparison::{Comparison, Outcome, Pairing};
 use runs::loaded::Machine;
 use runs::loaded::both::compare;
 use runs::report::{Ending, Report};
-use runs::request::{Call, Request};
+use runs::request::{Call, Memory, Part, PermittedRequest, Request};
 use runs::settings::Settings;
 
 /// Prints how a run ended.
@@ -69,8 +69,10 @@ pub(crate) fn run_once<U: ShownUnit>(
 }
 
 /// Prints what came of comparing two machines.
-pub(crate) fn show_outcome(rt: &HostRuntime, outcome: Outcome) -> anyhow::Result<()> {
-    match outcome {
+fn show_comparison(rt: &HostRuntime, comparison: &Comparison) -> anyhow::Result<()> {
+    let agreed = comparison.agreed;
+    println!(rt; "  answered alike {agreed}")?;
+    match comparison.outcome {
         Outcome::Same => println!(rt; "  the same throughout")?,
         Outcome::PermitFault { at, steps } => {
             println!(rt;
@@ -99,6 +101,12 @@ pub(crate) fn compare_permits(
     compare_two(rt, executable, &closed, wide)
 }
 
+/// A part of the other memory.
+const OTHER: Memory = Memory::Other(Part {
+    start: 5,
+    len: 1_025,
+});
+
 /// Compares two permits over a list of runs, looks, and calls with another memory.
 fn compare_two(
     rt: &HostRuntime,
@@ -113,9 +121,9 @@ fn compare_two(
         Call::Cell(0),
         Call::Run(1_000),
     ] {
-        for elsewhere in [false, true] {
+        for memory in [Memory::Own, OTHER] {
             pairings.push(Pairing {
-                request: Request { call, elsewhere },
+                request: Request { call, memory },
                 first: *first,
                 second: *second,
             })?;
@@ -135,6 +143,7 @@ pub(crate) fn compare_lists(
     let mut records = vec![in rt.alloc(); Record::BLANK; 64]?;
     let mut first_cells = vec![in rt.alloc(); 1u32; 1_024]?;
     let mut second_cells = vec![in rt.alloc(); 2u32; 1_024]?;
+    let mut other = vec![in rt.alloc(); 3u32; 2_048]?;
     let mut first_host = LentHost::new(tape.as_slice(), bytes.as_mut_slice(), 4);
     let mut second_host = LentHost::new(sheet.as_slice(), records.as_mut_slice(), 4);
     let comparison = compare(
@@ -143,12 +152,15 @@ pub(crate) fn compare_lists(
         &mut first_host,
         second_cells.as_mut_slice(),
         &mut second_host,
+        other.as_mut_slice(),
         pairings,
     )
     .map_err(|_| anyhow!("the executable is refused"))?;
-    show_outcome(rt, comparison.outcome)?;
+    show_comparison(rt, &comparison)?;
     let same = first_cells.as_slice() == second_cells.as_slice();
     println!(rt; "  the same cells {same}")?;
+    let kept = other.iter().all(|cell| *cell == 3);
+    println!(rt; "  the other memory as it was {kept}")?;
     Ok(())
 }
 
@@ -166,24 +178,37 @@ pub(crate) fn run_in_parts(
     let mut machine = Machine::load(executable, cells.as_mut_slice()).map_err(|_| anyhow!(
         "the executable is refused"
     ))?;
-    let mut requests = Vec::new(rt.alloc());
-    for _ in 0..20 {
-        for call in [
-            Call::Run(7),
-            Call::Run(100_000_001),
-            Call::Flags,
-            Call::Cell(5_000),
-        ] {
-            requests.push(Request {
-                call,
-                elsewhere: false,
-            })?;
-        }
-    }
+    let mut other = vec![in rt.alloc(); 3u32; 2_048]?;
+    let requests = requests_in_parts(rt, permit)?;
     let total = machine
-        .run_in_parts(permit, requests.as_slice(), cells.as_mut_slice(), &mut host)
+        .run_in_parts(
+            requests.as_slice(),
+            cells.as_mut_slice(),
+            &mut host,
+            other.as_mut_slice(),
+        )
         .context("no run was taken")?;
     let steps = u32::try_from(total.steps).ok().context("too many steps")?;
     let ending = total.ending;
     show_report(rt, Report { steps, ending })
+}
+
+/// Runs of seven steps under a permit, each with a run of another memory, a run of too large a budget and two looks after it,
+/// under a permit of their own.
+fn requests_in_parts(rt: &HostRuntime, permit: &Permit) -> anyhow::Result<Vec<PermittedRequest>> {
+    let (own, wide) = (Memory::Own, Permit::new());
+    let mut requests = Vec::new(rt.alloc());
+    for _ in 0..20 {
+        for (call, memory, permit) in [
+            (Call::Run(7), own, *permit),
+            (Call::Run(7), OTHER, wide),
+            (Call::Run(100_000_001), own, wide),
+            (Call::Flags, own, wide),
+            (Call::Cell(5_000), own, wide),
+        ] {
+            let request = Request { call, memory };
+            requests.push(PermittedRequest { request, permit })?;
+        }
+    }
+    Ok(requests)
 }

@@ -34,7 +34,7 @@ end main
 /// Assembles the program.
 pub(crate) fn build(rt: &HostRuntime) -> anyhow::Result<Vec<u8>> {
     let none = Label {
-        place: Place { offset: 0 },
+        place: Place::at(0),
         length: 0,
         address: 0,
     };

@@ -1,6 +1,6 @@
 pub mod Back
+pub mod Entries
 pub mod Fronts
 pub mod Made
-pub mod Questions
 pub mod Sides
 pub mod Whole

@@ -1,22 +1,26 @@
 -- What listing gives where there is room for every listing.
-use Rattle.std.proofs.Common.{◌≡◌, refl, ℕ, ◌≤◌, List, length, take, drop, Ok, Err, Result, IfOk, IfErr, arith, sym, ap, ◌∙◌}
+use Rattle.std.proofs.Common.{◌≡◌, refl, ℕ, ◌≤◌, true, List, length, take, drop, Ok, Err, Result, IfOk, IfErr, arith, sym, ap, ◌∙◌}
 use Rattle.std.proofs.lemmas.Bool.{cond-true, le-leb}
 use Rattle.std.proofs.lemmas.List.{take_at}
 use Rattle.executable.specs.Check.{Parts, parts_in, checked}
 use Rattle.executable.specs.declared.refusal.Refusal as executable
 use Rattle.executable.specs.declared.refusal.Refusal.TheVariants.{BadSizes, OtherLength, AddressTooLarge}
-use Rattle.listing.specs.Listing.{listing, listed_parts, listed, length_of, output_after}
+use Rattle.listing.specs.Listing.{listing, room_for, listed_parts, listed, length_of, output_after}
 use Rattle.listing.specs.declared.refusal.Refusal.{Refusal}
 use Rattle.listing.proofs.Room.{Bytes, listing_length, executable_length}
 use Rattle.roundtrip.proofs.Answered.{not_listed}
 use Rattle.tasks.specs.Listing.{listing_of, listed_whole}
-use Rattle.tasks.proofs.Questions.{each_yes, the_parts}
+use Rattle.roundtrip.proofs.Questions.{each_yes, the_parts}
 
 -- a listing has 2,031,678 bytes at most
 longest : (bs : List ℕ) (p : Parts) → Bytes bs → checked bs ≡ Ok p → length (listing (parts_in bs)) ≤ 2031678
 longest bs p bytes is =
     let each = each_yes bs p is in
     omega (arith, listing_length bs bytes (each OtherLength) (each AddressTooLarge), executable_length bs (each BadSizes) (each OtherLength))
+
+-- a page with room for every listing has room for that of an accepted executable
+pub has_room : (bs : List ℕ) (room : ℕ) (p : Parts) → Bytes bs → room ≡ 2031678 → checked bs ≡ Ok p → room_for p room ≡ true
+has_room bs room p bytes h is = le-leb (length (listing p)) room (omega (arith, h, longest bs p bytes is, ap (λ x. length (listing x)) (the_parts bs p is)))
 
 parts_whole : (bs : List ℕ) (room : ℕ) (r : Result Parts executable.Refusal) → Bytes bs → 2031678 ≤ room → checked bs ≡ r → listed_parts r room ≡ listing_of r
 parts_whole bs room (Ok p) bytes h is =

@@ -2,6 +2,7 @@
 
 ghost use Rattle.std.specs.Prelude.{◌≡◌, Decides, IfOk, length};
 ghost use Rattle.tasks.specs.Sameness.{Compares, refused_by};
+ghost use Rattle.tasks.specs.Listing.{listed_whole};
 ghost use Rattle.executable.specs.Check.{checked};
 ghost use Rattle.tasks.specs.declared.sameness.SameError.TheVariants.{Memory};
 
@@ -50,6 +51,7 @@ fn compare_on(
     requires text { length text.old ≡ LONGEST_LISTING }
     requires other { length other.old ≡ LONGEST_LISTING }
     ensures answer { Compares left.now right.now result }
+    ensures listings { IfOk result (λ same. Decides same (listed_whole left.now ≡ listed_whole right.now)) }
     ensures same { IfOk result (λ same. Decides same (left.now ≡ right.now)) }
 {
     match have_equal_listings(left, right, text, other) {
@@ -58,9 +60,10 @@ fn compare_on(
     }
 }
 
-/// Whether two executables have the same listing: exactly where they are equal. The first that is refused is told.
+/// Whether two executables have the same listing: they do exactly where they are equal. The first that is refused is told.
 pub fn have_same_listing(heap: Global, left: &[u8], right: &[u8]) -> Result<bool, SameError>
     ensures answer { Compares left.now right.now result }
+    ensures listings { IfOk result (λ same. Decides same (listed_whole left.now ≡ listed_whole right.now)) }
     ensures same { IfOk result (λ same. Decides same (left.now ≡ right.now)) }
 {
     let mut text = new_page(heap)?;

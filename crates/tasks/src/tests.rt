@@ -4,7 +4,6 @@ use crate::assembling::{assemble_source, facts_page};
 use crate::checking::check_listing;
 use crate::listing_page::list_page;
 use crate::sameness::{SameError, have_same_listing};
-use executable::check::check;
 use std::test::Fail;
 
 /// A source, what is told of it, and a filed listing with the line that is wrong in it, or 0 where none is.
@@ -42,8 +41,7 @@ fn tasks(rt: HostRuntime) -> Result<(), Fail> {
     for case in &CASES {
         let made = assemble_source(heap, case.source).ok().ok_or("refused")?;
         let bytes = made.bytes.as_slice();
-        let executable = check(bytes).ok().ok_or("no executable")?;
-        let facts = facts_page(heap, executable, made.labels)?;
+        let facts = facts_page(heap, made.summary, made.labels.len())?;
         assert_eq!(rt; facts.as_str(), case.facts);
         let page = list_page(heap, bytes).ok().ok_or("not listed")?;
         let checked = check_listing(heap, bytes, case.filed)

@@ -1,10 +1,8 @@
 //! The command assemble.
 
 ghost use Rattle.std.specs.Prelude.{◌≡◌, IfOk};
-ghost use Rattle.executable.specs.Check.{checked};
-ghost use Rattle.text_replies.specs.Assembled.{assembly, facts_in, shown_assembly};
+ghost use Rattle.text_replies.specs.Assembled.{assembly, shown_assembly, TellsFirst};
 
-use executable::check::check;
 use reply::refusal::refuse_at;
 use reply::reply::Reply;
 use std::alloc::{AllocError, Global};
@@ -18,25 +16,19 @@ pub struct Assembly {
     pub executable: Option<Vec<u8>>,
 }
 
-/// The lines that tell of an executable, and how many labels its text has; of other bytes nothing is told.
-fn facts_in(heap: Global, executable: &[u8], labels: usize) -> Result<Vec<u8>, AllocError>
-    ensures { IfOk result (λ page. page.items ≡ facts_in labels (checked executable.now)) }
-{
-    match check(executable) {
-        Ok(parts) => Ok(facts_page(heap, parts, labels)?.into_bytes()),
-        Err(_) => Ok(Vec::new(heap)),
-    }
-}
-
-/// Assembles a text: tells the facts of the executable, or which question about the text gets a no.
+/// Assembles a text: tells the facts of the executable, or which question about the text is the first of all with a no.
 pub fn assemble(heap: Global, source: &[u8]) -> Result<Assembly, AllocError>
-    ensures { IfOk result (λ a. shown_assembly a ≡ assembly source.now) }
+    ensures told { IfOk result (λ a. shown_assembly a ≡ assembly source.now) }
+    ensures first { IfOk result (λ a. TellsFirst source.now (shown_assembly a)) }
 {
     match assemble_source(heap, source) {
         Ok(assembled) => {
-            let page = facts_in(heap, assembled.bytes.as_slice(), assembled.labels)?;
+            let page = facts_page(heap, assembled.summary, assembled.labels.len())?;
             Ok(Assembly {
-                reply: Reply { page, done: true },
+                reply: Reply {
+                    page: page.into_bytes(),
+                    done: true,
+                },
                 executable: Some(assembled.bytes),
             })
         }

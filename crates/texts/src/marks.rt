@@ -11,7 +11,7 @@ pub(crate) fn filler() -> Label
     ensures { result ≡ filler_label }
 {
     Label {
-        place: Place { offset: 7 },
+        place: Place::at(7),
         length: 7,
         address: 7,
     }

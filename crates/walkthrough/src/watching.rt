@@ -1,5 +1,7 @@
 //! Telling how far a run is.
 
+ghost use Rattle.std.specs.Prelude.{◌≡◌};
+
 use play::watch::{Progress, Watch};
 
 /// Prints how far a run is that goes on.
@@ -22,6 +24,8 @@ impl<'a> Teller<'a> {
 }
 
 impl<'a> Watch for Teller<'a> {
+    ghost hears = { λ before _ after. after ≡ before };
+
     fn tell(&mut self, progress: Progress<'_>) {
         let _ = self.show(progress);
     }

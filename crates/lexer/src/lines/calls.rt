@@ -3,12 +3,12 @@
 ghost use Rattle.std.specs.Prelude.{◌≡◌, ℕ, ◌+◌, min, List, length, ⊤, is_some, IfSome, if◌then◌else◌};
 ghost use Rattle.std.specs.Option.{option_map};
 ghost use Rattle.std.specs.List.{between};
-ghost use Rattle.lexer.specs.Cursor.{lines_in, numbered_in, LinesStand};
+ghost use Rattle.lexer.specs.Cursor.{lines_in, numbered_in, shown_line, LinesStand};
 ghost use Rattle.lexer.specs.Divided.{Lined};
 ghost use Rattle.lexer.specs.Parts.{StandsAt};
 ghost use Rattle.lexer.specs.Text.{lines_of, first_line, next_at, tail_of};
 
-use crate::inside::before;
+use crate::inside::{before, code_of};
 use crate::lines::{Line, Lines};
 
 impl<'a> Line<'a> {
@@ -47,9 +47,9 @@ impl<'a> Lines<'a> {
 
     /// The next line, if there is one.
     pub fn next_line(&mut self) -> Option<Line<'a>>
-        ensures steps { YieldsFirstBy (λ l. (l.number, l.place, l.code.now)) numbered_in self.old result self.new }
+        ensures steps { YieldsFirstBy shown_line numbered_in self.old result self.new }
         ensures goes { MakesProgress (λ _. ⊤) (item_count numbered_in) self.old result self.new }
-        ensures told { option_map (λ l. (l.number, l.place, l.code.now)) result ≡ first_line self.old.number self.old.place (lines_in self.old) }
+        ensures told { option_map shown_line result ≡ first_line self.old.number self.old.place (lines_in self.old) }
         ensures left { lines_in self.new ≡ tail_of (lines_in self.old) }
         ensures place { self.new.place ≡ next_at self.old.place (lines_in self.old) }
         ensures stands { (text : List ℕ) → LinesStand text self.old → IfSome result (λ l. StandsAt text l.place l.code.now) }
@@ -66,7 +66,7 @@ impl<'a> Lines<'a> {
         Some(Line {
             number,
             place,
-            code: before(line, b'#'),
+            code: code_of(line),
         })
     }
 }
@@ -76,7 +76,7 @@ impl<'a> Iterator for Lines<'a> {
 
     type Item = Line<'a>;
 
-    ghost next_gives = { YieldsFirstBy (λ l. (l.number, l.place, l.code.now)) numbered_in };
+    ghost next_gives = { YieldsFirstBy shown_line numbered_in };
 
     ghost remaining = { item_count numbered_in };
 

@@ -2,7 +2,7 @@
 
 ghost use Rattle.std.specs.Prelude.{◌≡◌, ℕ, ◌+◌, true, false, List, [], length, ⊤, is_some, IfSome, IfNone, MatchOption, if◌then◌else◌};
 ghost use Rattle.std.specs.Option.{option_map};
-ghost use Rattle.lexer.specs.Cursor.{words_in, kinds_in, past_word, Begins, SplitFirst};
+ghost use Rattle.lexer.specs.Cursor.{words_in, kinds_in, told_in, past_word, Begins, SplitFirst};
 ghost use Rattle.lexer.specs.Divided.{Divided};
 ghost use Rattle.lexer.specs.Parts.{StandsAt};
 ghost use Rattle.lexer.specs.Text.{tail_of, blanks};
@@ -76,7 +76,7 @@ impl<'a> Words<'a> {
     /// The next word, if there is one, of any kind but a label.
     #[tactic(auto, using(crate::proofs::Stands::kind_bytes))]
     pub fn next_word(&mut self) -> Option<Token<'a>>
-        ensures steps { YieldsFirstBy (λ t. shown t.word) kinds_in self.old result self.new }
+        ensures steps { YieldsFirstBy (λ t. (t.line, t.place, shown t.word)) told_in self.old result self.new }
         ensures goes { MakesProgress (λ _. ⊤) (item_count kinds_in) self.old result self.new }
         ensures told { tell result ≡ first_told self.old.line false (self.old.place + blanks self.old.rest.now) (words_in self.old) }
         ensures kind { option_map (λ t. shown t.word) result ≡ first_shown false (words_in self.old) }
@@ -102,7 +102,7 @@ impl<'a> Iterator for Words<'a> {
 
     type Item = Token<'a>;
 
-    ghost next_gives = { YieldsFirstBy (λ t. shown t.word) kinds_in };
+    ghost next_gives = { YieldsFirstBy (λ t. (t.line, t.place, shown t.word)) told_in };
 
     ghost remaining = { item_count kinds_in };
 

@@ -1,7 +1,10 @@
 //! Reading and changing a processor. Each change touches one part.
 
-ghost use Rattle.std.specs.Prelude.{◌≡◌};
+ghost use Rattle.std.specs.Prelude.{◌≡◌, ℕ, ◌<◌, ◌^◌, slice_index};
+ghost use Rattle.host.specs.Meaning.{Meaning};
 ghost use Rattle.machine.specs.Cores.{core_of, new_core, in_register, in_pair, with_register, with_pair, with_flags, advanced};
+ghost use Rattle.machine.specs.Sequences.{IsLawful};
+ghost use Rattle.machine.specs.Step.{state};
 
 use crate::flags::Flags;
 use crate::pair::Pair;
@@ -17,6 +20,11 @@ pub(crate) const R14: Register = Register { number: 14 };
 
 /// The instruction pointer.
 pub(crate) const R15: Register = Register { number: 15 };
+
+/// Each number in a slice has 32 bits, as its type says. Nothing is done.
+fn are_words(numbers: &[u32])
+    ensures { (k : ℕ) → slice_index numbers.now k < 2 ^ 32 }
+{}
 
 impl Processor {
     /// A processor with 0 in each register and in the flags.
@@ -79,5 +87,13 @@ impl Processor {
         ensures { core_of self.new ≡ advanced (core_of self.old) }
     {
         self.set_register(R15, self.register(R15).wrapping_add(1));
+    }
+
+    /// A processor and a memory hold words, as their types say. Nothing is done.
+    pub(crate) fn holds_words(&self, cells: &[u32])
+        ensures { (m : Meaning) → IsLawful (state (core_of self.now) cells.now m) }
+    {
+        are_words(&self.registers);
+        are_words(cells);
     }
 }

@@ -95,7 +95,8 @@ impl Permit {
         Ok(())
     }
 
-    /// Whether this permit is at least as open as another: no level is higher, and the maximum is no smaller.
+    /// Whether this permit is at least as open as another: each of its levels is the same or lower, and its maximum the
+    /// same or larger.
     pub fn is_as_open_as(&self, other: &Permit) -> bool
         ensures { Decides result (AsOpen (rights_of other.now) (rights_of self.now)) }
     {

@@ -4,6 +4,7 @@ ghost use Rattle.std.specs.Prelude.{◌≡◌, ◌/◌, ◌^◌, ◌<◌, ◌≤
 ghost use Rattle.executable.specs.Check.{contents};
 ghost use Rattle.runs.specs.Machines.{machine_of, new_machine};
 ghost use Rattle.runs.specs.Looks.{register_seen, cell_seen};
+ghost use Rattle.runs.specs.Questions.{register_asks, cell_asks, FirstNo};
 
 use crate::loaded::Machine;
 use crate::refusal::CallRefusal;
@@ -37,7 +38,8 @@ impl Machine {
 
     /// What a register holds.
     pub fn register(&self, number: u64) -> Result<u32, CallRefusal>
-        ensures { result ≡ register_seen (machine_of self.now) number }
+        ensures value { result ≡ register_seen (machine_of self.now) number }
+        ensures first { FirstNo (register_asks number) result }
     {
         let number = u8::try_from(number).map_err(|_| CallRefusal::OutOfRange)?;
         let register = Register::new(number).ok_or(CallRefusal::OutOfRange)?;
@@ -53,7 +55,8 @@ impl Machine {
 
     /// What a cell of its memory holds.
     pub fn cell(&self, cells: &[u32], number: u64) -> Result<u32, CallRefusal>
-        ensures { result ≡ cell_seen (machine_of self.now) cells.now number }
+        ensures value { result ≡ cell_seen (machine_of self.now) cells.now number }
+        ensures first { FirstNo (cell_asks (machine_of self.now) cells.now number) result }
     {
         if cells.len() != self.size {
             return Err(CallRefusal::OtherMemory);

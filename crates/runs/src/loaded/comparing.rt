@@ -1,14 +1,13 @@
 //! Two machines, asked the same.
 
-ghost use Rattle.std.specs.Prelude.{◌≡◌, Decides, IfErr, IfOk, length};
-ghost use Rattle.runs.specs.Compared.{met, asked_then, wanted, first_answered, second_answered, second_wanted, end_at, Compared};
+ghost use Rattle.std.specs.Prelude.{◌≡◌, Decides};
+ghost use Rattle.runs.specs.Compared.{met, asked_then, wanted, agreed, first_answered, second_answered, second_wanted, both_after, end_at, Compared};
 ghost use Rattle.runs.specs.Laws.{is_permit_fault};
+ghost use Rattle.runs.specs.Both.{both_over, lent};
 ghost use Rattle.runs.specs.Machines.{machine_of};
-ghost use Rattle.runs.specs.Runs.{held};
 
 use crate::comparison::{Outcome, Pairing};
 use crate::loaded::Machine;
-use crate::loaded::sameness::are_same;
 use crate::report::{Ending, Report};
 use crate::request::{Answer, Call, Request};
 use host::host::Host;
@@ -44,7 +43,7 @@ fn asked_then(request: Request, steps: Option<u32>) -> Request
         None => request,
         Some(steps) => Request {
             call: Call::Run(u64::from(steps)),
-            elsewhere: false,
+            memory: request.memory,
         },
     }
 }
@@ -62,6 +61,13 @@ fn wanted(answer: Answer, steps: Option<u32>) -> Answer
     }
 }
 
+/// Whether two answers are the same, with all their values.
+fn are_same(answer: Answer, other: Answer) -> bool
+    ensures { Decides result (answer ≡ other) }
+{
+    answer == other
+}
+
 impl Pairing {
     /// Asks both machines, and tells the steps to a permit fault of the first, and whether the second answers what it has to.
     fn ask<H: Host, K: Host>(
@@ -72,19 +78,30 @@ impl Pairing {
         second: &mut Machine,
         second_cells: &mut [u32],
         second_host: &mut K,
+        other: &mut [u32],
     ) -> (Option<u32>, bool)
-        ensures met { result.0 ≡ met (first_answered self.now (held (machine_of first.old) first_cells.old (H.meaning first_host.old))).answer }
-        ensures agreed { Decides result.1 ((second_answered self.now (held (machine_of first.old) first_cells.old (H.meaning first_host.old)) (held (machine_of second.old) second_cells.old (K.meaning second_host.old))).answer ≡ second_wanted self.now (held (machine_of first.old) first_cells.old (H.meaning first_host.old))) }
-        ensures first { held (machine_of first.new) first_cells.new (H.meaning first_host.new) ≡ (first_answered self.now (held (machine_of first.old) first_cells.old (H.meaning first_host.old))).held }
-        ensures second { held (machine_of second.new) second_cells.new (K.meaning second_host.new) ≡ (second_answered self.now (held (machine_of first.old) first_cells.old (H.meaning first_host.old)) (held (machine_of second.old) second_cells.old (K.meaning second_host.old))).held }
+        ensures met { let at = lent first_cells.old (H.meaning first_host.old)
+            second_cells.old (K.meaning second_host.old) other.old in
+            let before = both_over (machine_of first.old) (machine_of second.old) at in
+            result.0 ≡ met (first_answered self.now before).answer }
+        ensures agreed { let at = lent first_cells.old (H.meaning first_host.old)
+            second_cells.old (K.meaning second_host.old) other.old in
+            let before = both_over (machine_of first.old) (machine_of second.old) at in
+            Decides result.1 ((second_answered self.now before).answer ≡ second_wanted self.now before) }
+        ensures after { let at = lent first_cells.old (H.meaning first_host.old)
+            second_cells.old (K.meaning second_host.old) other.old in
+            let before = both_over (machine_of first.old) (machine_of second.old) at in
+            let to = lent first_cells.new (H.meaning first_host.new)
+            second_cells.new (K.meaning second_host.new) other.new in
+            both_over (machine_of first.new) (machine_of second.new) to ≡ both_after self.now before }
         ensures first_lender { H.roots first_host.new ≡ H.roots first_host.old }
         ensures second_lender { K.roots second_host.new ≡ K.roots second_host.old }
     {
-        let answer = first.answer(&self.first, self.request, first_cells, first_host);
+        let answer = first.answer(&self.first, self.request, first_cells, first_host, other);
         let steps = met(answer);
         let request = asked_then(self.request, steps);
-        let other = second.answer(&self.second, request, second_cells, second_host);
-        (steps, are_same(other, wanted(answer, steps)))
+        let told = second.answer(&self.second, request, second_cells, second_host, other);
+        (steps, are_same(told, wanted(answer, steps)))
     }
 }
 
@@ -98,8 +115,14 @@ pub(crate) fn ask_all<H: Host, K: Host>(
     second: &mut Machine,
     second_cells: &mut [u32],
     second_host: &mut K,
+    other: &mut [u32],
 ) -> Outcome
-    ensures compared { Compared pairings.now 0 (held (machine_of first.old) first_cells.old (H.meaning first_host.old)) (held (machine_of second.old) second_cells.old (K.meaning second_host.old)) (end_at result (held (machine_of first.new) first_cells.new (H.meaning first_host.new)) (held (machine_of second.new) second_cells.new (K.meaning second_host.new))) }
+    ensures compared { let at = lent first_cells.old (H.meaning first_host.old)
+        second_cells.old (K.meaning second_host.old) other.old in
+        let before = both_over (machine_of first.old) (machine_of second.old) at in
+        let to = lent first_cells.new (H.meaning first_host.new)
+        second_cells.new (K.meaning second_host.new) other.new in
+        Compared pairings.now 0 before (end_at result (both_over (machine_of first.new) (machine_of second.new) to)) }
     ensures first_lender { H.roots first_host.new ≡ H.roots first_host.old }
     ensures second_lender { K.roots second_host.new ≡ K.roots second_host.old }
 {
@@ -111,6 +134,7 @@ pub(crate) fn ask_all<H: Host, K: Host>(
             second,
             second_cells,
             second_host,
+            other,
         );
         if !agreed {
             return Outcome::Different { at };
@@ -120,4 +144,14 @@ pub(crate) fn ask_all<H: Host, K: Host>(
         }
     }
     Outcome::Same
+}
+
+/// How many calls both machines answered alike, of so many.
+pub(crate) fn agreed(outcome: Outcome, all: usize) -> usize
+    ensures { result ≡ agreed outcome all }
+{
+    match outcome {
+        Outcome::Same => all,
+        Outcome::PermitFault { at, .. } | Outcome::Different { at } => at,
+    }
 }

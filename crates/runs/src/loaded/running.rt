@@ -6,7 +6,9 @@ ghost use Rattle.machine.specs.Rules.{rules_of};
 ghost use Rattle.machine.specs.Step.{state};
 ghost use Rattle.runs.specs.Laws.{NoRunAfterExit, SameUnderLargerBudgets, SameUnderWiderPermits, SpentAtPermitFaults};
 ghost use Rattle.runs.specs.Machines.{machine_of};
+ghost use Rattle.runs.specs.Questions.{run_asks, FirstNo};
 ghost use Rattle.runs.specs.Runs.{ran, run_asked, called, end_of, held, settings_of};
+ghost use Rattle.runs.specs.Steps.{TakesItsSteps};
 
 use crate::loaded::Machine;
 use crate::refusal::CallRefusal;
@@ -75,19 +77,31 @@ impl Machine {
         Ok(budget as u32)
     }
 
-    /// Runs the program over its memory and a host, under a permit and a budget of steps.
+    /// Runs the program over its memory and a host, under a permit and for no more steps than its budget.
     pub fn run<H: Host>(
         &mut self,
         settings: &Settings<'_>,
         cells: &mut [u32],
         host: &mut H,
     ) -> Result<Report, CallRefusal>
-        ensures value { result ≡ (called (settings_of settings.now) (held (machine_of self.old) cells.old (H.meaning host.old))).answer }
-        ensures after { held (machine_of self.new) cells.new (H.meaning host.new) ≡ (called (settings_of settings.now) (held (machine_of self.old) cells.old (H.meaning host.old))).held }
-        ensures larger { SameUnderLargerBudgets (settings_of settings.now) (held (machine_of self.old) cells.old (H.meaning host.old)) }
-        ensures exits { NoRunAfterExit (settings_of settings.now) (held (machine_of self.old) cells.old (H.meaning host.old)) }
-        ensures spent { SpentAtPermitFaults (settings_of settings.now) (held (machine_of self.old) cells.old (H.meaning host.old)) }
-        ensures wider { SameUnderWiderPermits (settings_of settings.now) (held (machine_of self.old) cells.old (H.meaning host.old)) }
+        ensures value { let before = held (machine_of self.old) cells.old (H.meaning host.old) in
+            result ≡ (called (settings_of settings.now) before).answer }
+        ensures after { let before = held (machine_of self.old) cells.old (H.meaning host.old) in
+            let after = held (machine_of self.new) cells.new (H.meaning host.new) in
+            after ≡ (called (settings_of settings.now) before).held }
+        ensures first { let before = held (machine_of self.old) cells.old (H.meaning host.old) in
+            FirstNo (run_asks (settings_of settings.now) before) result }
+        ensures steps { let before = held (machine_of self.old) cells.old (H.meaning host.old) in
+            let after = held (machine_of self.new) cells.new (H.meaning host.new) in
+            TakesItsSteps (settings_of settings.now) before result after }
+        ensures larger { let before = held (machine_of self.old) cells.old (H.meaning host.old) in
+            SameUnderLargerBudgets (settings_of settings.now) before }
+        ensures exits { let before = held (machine_of self.old) cells.old (H.meaning host.old) in
+            NoRunAfterExit (settings_of settings.now) before }
+        ensures spent { let before = held (machine_of self.old) cells.old (H.meaning host.old) in
+            SpentAtPermitFaults (settings_of settings.now) before }
+        ensures wider { let before = held (machine_of self.old) cells.old (H.meaning host.old) in
+            SameUnderWiderPermits (settings_of settings.now) before }
         ensures lender { H.roots host.new ≡ H.roots host.old }
     {
         let budget = self.ask(cells.len(), settings.budget)?;

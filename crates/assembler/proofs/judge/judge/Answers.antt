@@ -4,6 +4,7 @@ use Rattle.std.proofs.lemmas.Result.{err_from_is_err_and}
 use Rattle.lexer.specs.Cursor.{words_in}
 use Rattle.lexer.specs.Shown.{first_shown, kind_of}
 use Rattle.lexer.specs.Text.{blanks, tail_of}
+use Rattle.assembler.specs.Labels.{name_in}
 use Rattle.assembler.specs.Lines.{Parts, parts_by}
 use Rattle.assembler.specs.Progress.{Judged, Progress, progress_of}
 use Rattle.assembler.specs.declared.label.Label.{Label}
@@ -39,7 +40,7 @@ returns-in_err-judge_rest-in-None-default c =
     let next = first_shown false ws in
     let ops = map kind_of (tail_of ws) in
     let at = c.args.line.place + blanks c.args.line.code.now in
-    let judged = judge_of t cap ls pr at in
+    let judged = judge_of (name_in t) cap ls pr at in
     let parts = plain_parts c.split_label.result.0 ws _ c.in-None-default.is-0 c.split_label.ensures.parts in
     let p = err_from_is_err_and c.from_residual.result c.from_residual.ensures.1 in
     rw (p.1) (ap Err p.2 ∙ plain_err t cap ls pr at next ops c.in_err-judge_rest-in-None-default.field-0.0 (c.in_err-judge_rest-in-None-default.ensures None refl) ∙ ap judged parts)
@@ -54,7 +55,7 @@ returns-in_err-judge_label-in-Some-default c =
     let next = first_shown false ws in
     let ops = map kind_of (tail_of ws) in
     let at = c.args.line.place + blanks c.args.line.code.now in
-    let judged = judge_of t cap ls pr at in
+    let judged = judge_of (name_in t) cap ls pr at in
     let parts = labelled_parts c.split_label.result.0 (c.in-Some-default.place, c.in-Some-default.name) ws _ c.in-Some-default.is-0 c.split_label.ensures.parts in
     let p = err_from_is_err_and c.from_residual-in_err-judge_label-in-Some-default.result c.from_residual-in_err-judge_label-in-Some-default.ensures.1 in
     rw (p.1) (ap Err p.2 ∙ labelled_no t cap ls pr at c.in-Some-default.name.now next ops c.in_err-judge_label-in-Some-default.field-0.0 c.in_err-judge_label-in-Some-default.ensures ∙ ap judged parts)
@@ -69,7 +70,7 @@ returns-in_err-after-in-Some-default c =
     let next = first_shown false ws in
     let ops = map kind_of (tail_of ws) in
     let at = c.args.line.place + blanks c.args.line.code.now in
-    let judged = judge_of t cap ls pr at in
+    let judged = judge_of (name_in t) cap ls pr at in
     let name = c.in-Some-default.name in
     let parts = labelled_parts c.split_label.result.0 (c.in-Some-default.place, name) ws _ c.in-Some-default.is-0 c.split_label.ensures.parts in
     let p = err_from_is_err_and c.from_residual-in_err-after-in-Some-default.result c.from_residual-in_err-after-in-Some-default.ensures.1 in
@@ -85,7 +86,7 @@ returns-in_ok-judge_rest-in-None-default c =
     let next = first_shown false ws in
     let ops = map kind_of (tail_of ws) in
     let at = c.args.line.place + blanks c.args.line.code.now in
-    let judged = judge_of t cap ls pr at in
+    let judged = judge_of (name_in t) cap ls pr at in
     let parts = plain_parts c.split_label.result.0 ws _ c.in-None-default.is-0 c.split_label.ensures.parts in
     plain_ok t cap ls pr at next ops (progress_of c.in_ok-judge_rest-in-None-default.field-0) (c.in_ok-judge_rest-in-None-default.ensures None refl) ∙ ap judged parts
 
@@ -99,7 +100,7 @@ returns-in_ok-after-in-Some-default c =
     let next = first_shown false ws in
     let ops = map kind_of (tail_of ws) in
     let at = c.args.line.place + blanks c.args.line.code.now in
-    let judged = judge_of t cap ls pr at in
+    let judged = judge_of (name_in t) cap ls pr at in
     let name = c.in-Some-default.name in
     let after = progress_of c.in_ok-after-in-Some-default.after in
     let parts = labelled_parts c.split_label.result.0 (c.in-Some-default.place, name) ws _ c.in-Some-default.is-0 c.split_label.ensures.parts in

@@ -8,10 +8,10 @@ use Rattle.assembler.proofs.operand.read_string.Goals as goal
 
 pub returns-in_default-count_characters : goal.returns-in_default-count_characters
 returns-in_default-count_characters c =
-    string_uncounted c.in-Text.part.now c.in_default-count_characters.ensures.value
-    ∙ ap (λ w. placed a_string (shown w) (Some (unwrap_or (characters_in (shown w)) []))) (sym c.in-Text.is)
+    string_uncounted c.in-String.part.now c.in_default-count_characters.ensures.value
+    ∙ ap (λ w. placed a_string (shown w) (Some (unwrap_or (characters_in (shown w)) []))) (sym c.in-String.is)
 
 pub returns : goal.returns
 returns c =
-    string_counted c.in-Text.part.now c.in-Some.field-0 c.in-Some.ensures.value
-    ∙ ap (λ w. placed a_string (shown w) (Some (unwrap_or (characters_in (shown w)) []))) (sym c.in-Text.is)
+    string_counted c.in-String.part.now c.in-Some.field-0 c.in-Some.ensures.value
+    ∙ ap (λ w. placed a_string (shown w) (Some (unwrap_or (characters_in (shown w)) []))) (sym c.in-String.is)

@@ -1,11 +1,13 @@
+use Rattle.assembler.specs.Labels.{name_in}
 use Rattle.std.proofs.Common.{◌≡◌, ◌<◌, [], length, Ok, Err, rules, sym, ap, ◌∙◌, arith}
 use Rattle.std.proofs.lemmas.List.{length-take-le}
 use Rattle.std.proofs.lemmas.Result.{err_from_is_err_and}
 use Rattle.bounded.specs.Held.{entries, room}
-use Rattle.lexer.specs.Cursor.{numbered_in}
+use Rattle.lexer.specs.Cursor.{numbered_in, shown_line}
 use Rattle.lexer.specs.Text.{lines_of}
 use Rattle.assembler.specs.Assembled.{outcome, run_from, fresh}
 use Rattle.assembler.specs.Progress.{judged_as, progress_of}
+use Rattle.assembler.specs.Questions.{refusal_at}
 use Rattle.assembler.specs.Reading.{result_map}
 use Rattle.assembler.proofs.Mapped.{map_err_ok, map_err_err}
 use Rattle.assembler.proofs.Numbered.{run_in_lines, run_is}
@@ -32,7 +34,7 @@ loop-line-preserved c =
     let judged : Ok j ≡ of_code t (room labels) (entries labels) pr line.place line.code.now =
     sym (ap (result_map judged_as) is) ∙ c.judge.ensures ∙ ap (λ x. of_code t x c.as_slice.result.now pr line.place line.code.now) c.capacity.ensures ∙ ap (λ x. of_code t (room labels) x pr line.place line.code.now) c.as_slice.ensures in
     let rest = numbered_in c.next.new.self in
-    let on = ap (run_in_lines t (room labels) (entries labels) pr) c.in-Some.ensures.steps ∙ run_ok t (room labels) (entries labels) pr (line.number, line.place, line.code.now) rest j judged in
+    let on = ap (run_in_lines t (room labels) (entries labels) pr) c.in-Some.ensures.steps ∙ run_ok t (room labels) (entries labels) pr (shown_line line) rest j judged in
     record {
       told =
           ap (λ x. run_in_lines t x (entries c.enter.new.labels) j.progress rest) c.enter.ensures.room
@@ -49,16 +51,16 @@ returns-in_err-judged-clause-told c =
     let labels = c.loop-line.labels in
     let pr = progress_of c.loop-line.progress in
     let p = err_from_is_err_and c.from_residual.result c.from_residual.ensures.1 in
-    let bad = map_err_err c.judge.result c.map_err.result c.in_err-judged.field-0.0 _ (λ q. record { question = q; origin = record { line = line.number } }) c.map_err.ensures.cases c.in_err-judged.was (λ e d h. search rules) in
+    let bad = map_err_err c.judge.result c.map_err.result c.in_err-judged.field-0.0 _ (λ q. refusal_at q line.number) c.map_err.ensures.cases c.in_err-judged.was (λ e d h. search rules) in
     let judged : Err bad.0 ≡ of_code t (room labels) (entries labels) pr line.place line.code.now =
     sym (ap (result_map judged_as) bad.1) ∙ c.judge.ensures ∙ ap (λ x. of_code t x c.as_slice.result.now pr line.place line.code.now) c.capacity.ensures ∙ ap (λ x. of_code t (room labels) x pr line.place line.code.now) c.as_slice.ensures in
-    let on = ap (run_in_lines t (room labels) (entries labels) pr) c.in-Some.ensures.steps ∙ run_err t (room labels) (entries labels) pr (line.number, line.place, line.code.now) (numbered_in c.next.new.self) bad.0 judged in
+    let on = ap (run_in_lines t (room labels) (entries labels) pr) c.in-Some.ensures.steps ∙ run_err t (room labels) (entries labels) pr (shown_line line) (numbered_in c.next.new.self) bad.0 judged in
     ap (λ r. outcome r (entries labels)) (p.1 ∙ ap Err (p.2 ∙ bad.2))
-    ∙ sym on ∙ c.loop-line.invariant.told ∙ run_is t _ [] fresh 1 0 (lines_of t) ∙ ap (λ i. run_from t (length i) [] fresh 1 0 (lines_of t)) c.clear.ensures.items
+    ∙ sym on ∙ c.loop-line.invariant.told ∙ run_is t _ [] fresh 1 0 (lines_of t) ∙ ap (λ i. run_from (name_in t) (length i) [] fresh 1 0 (lines_of t)) c.clear.ensures.items
 
 pub returns-clause-told : goal.returns-clause-told
 returns-clause-told c =
     let t = c.args.text.now in
     let labels = c.loop-line.labels in
     sym (ap (run_in_lines t (room labels) (entries labels) (progress_of c.loop-line.progress)) c.in-None.ensures.steps.0)
-    ∙ c.loop-line.invariant.told ∙ run_is t _ [] fresh 1 0 (lines_of t) ∙ ap (λ i. run_from t (length i) [] fresh 1 0 (lines_of t)) c.clear.ensures.items
+    ∙ c.loop-line.invariant.told ∙ run_is t _ [] fresh 1 0 (lines_of t) ∙ ap (λ i. run_from (name_in t) (length i) [] fresh 1 0 (lines_of t)) c.clear.ensures.items

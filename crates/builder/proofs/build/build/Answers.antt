@@ -4,10 +4,10 @@ use Rattle.bounded.specs.Held.{room}
 use Rattle.executable.specs.Check.{contents, checked}
 use Rattle.assembler.specs.Assembled.{assembled, answer_of}
 use Rattle.assembler.specs.declared.question.Refusal.{Refusal}
-use Rattle.builder.specs.Built.{text_parts, summary_of}
+use Rattle.builder.specs.Built.{text_parts, summary_of, labels_left, labels_refused}
 use Rattle.builder.specs.Standing.{ExactlyFirstOfAll}
 use Rattle.builder.specs.declared.summary.Summary.{Summary}
-use Rattle.builder.proofs.Called.{labels_left_are, stands, refused_same, summed, as_long, not_refused}
+use Rattle.builder.proofs.Called.{labels_left_are, stands, whole, same_output, numbers_are, refused_same, summed, as_long, not_refused}
 use Rattle.builder.proofs.FirstNo.{exactly_of_all}
 use Rattle.builder.proofs.build.build.Goals as goal
 
@@ -24,6 +24,9 @@ returns-in_err-length c =
       labels = told.labels ∙ labels_left_are t cap len;
       output = told.output;
       accepted = rw (p.1) tt;
+      numbers = rw (p.1) tt;
+      left = rw (p.1) (told.labels ∙ labels_left_are t cap len ∙ ap (labels_left t) (sym c.in_err-length.ensures.value) ∙ ap (λ q. labels_refused t q.question q.origin.line) (sym p.2));
+      written = rw (p.1) (told.output ∙ same_output (assembled t cap len) c.in_err-length.field-0.0 c.args.out.now c.in_err-length.ensures.value);
       rest = told.rest;
       first = subst (ExactlyFirstOfAll t cap len) (sym value) (exactly_of_all t cap len);
     }
@@ -48,12 +51,16 @@ returns c =
     let told = c.assemble.ensures in
     let parts = contents c.in-Ok.executable in
     let ok = (stands t cap c.args.out.now out n c.in_ok-length.ensures.value told.output).1 in
+    let is = whole t cap c.args.out.now out n c.in_ok-length.ensures.value told.output in
     let value : ◌≡◌ {A = Result Summary Refusal} (Ok c.summarize.result) (summary_of t (answer_of (assembled t cap len))) = summed t _ n parts c.summarize.result c.in_ok-length.ensures.value (c.in-Ok.ensures.value ∙ ok) c.summarize.ensures in
     record {
       value = value;
       labels = told.labels ∙ labels_left_are t cap len;
       output = told.output;
       accepted = as_long out n parts c.summarize.result c.summarize.ensures ∙ ok;
+      numbers = numbers_are t _ n c.summarize.result c.in_ok-length.ensures.value value is.0;
+      left = told.labels ∙ labels_left_are t cap len ∙ ap (labels_left t) (sym c.in_ok-length.ensures.value);
+      written = is.1;
       rest = told.rest;
       first = subst (ExactlyFirstOfAll t cap len) (sym value) (exactly_of_all t cap len);
     }

@@ -12,10 +12,10 @@ loop-item-preserved g c =
     let w = c.write.ensures in
     let items = c.args.items.now in
     let left : 0 < l.host.left = omega (arith, c.loop-item-test.true, l.invariant.left) in
-    let onward : l.host.at ≤ c.write.new.self.at = omega (arith, w.place, place_more code l.host.left l.host.at (get_or items l.item-index (Number 0)) left) in
+    let onward : l.host.output.len ≤ c.write.new.self.output.len = omega (arith, w.place, place_more code l.host.left (get_or items l.item-index (Number 0)) l.host.output left) in
     record {
       written = ap (λ (m : Meaning). m.written) w.after ∙ written_more (lent_meaning code l.host) items l.item-index c.loop-item-test.true left l.invariant.written;
       left = omega (arith, ap (λ (m : Meaning). m.left) w.after);
-      rest = w.rest ∙ drop_later c.loop-item.host.output.now c.new-host.result.output.now l.host.at c.write.new.self.at onward l.invariant.rest;
-      lender = cc (w.lender, l.invariant.lender);
+      rest = w.rest.past ∙ drop_later c.loop-item.host.output.items.now c.over-host.result.output.items.now l.host.output.len c.write.new.self.output.len onward l.invariant.rest;
+      lender = cc (l.invariant.lender);
     }

@@ -6,6 +6,6 @@ abbrev pub invariant-loop-item : goal.invariant-loop-item
 invariant-loop-item g l = record {
   written : (lent_meaning g.U.CodeUnit.code l.host).written ≡ take l.item-index l.items;
   left : l.host.left + l.item-index ≡ length l.items;
-  rest : drop l.host.at l.host.output.now ≡ drop l.host.at l.initial.host.output.now;
-  lender : l.host.output.ghost_name ≡ l.initial.host.output.ghost_name;
+  rest : drop l.host.output.len l.host.output.items.now ≡ drop l.host.output.len l.initial.host.output.items.now;
+  lender : l.host.output.items.ghost_name ≡ l.initial.host.output.items.ghost_name;
 }

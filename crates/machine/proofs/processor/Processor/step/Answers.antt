@@ -24,3 +24,9 @@ returns-in-Ok-clause-turn g c = steps_in_turn (core_of c.args.self.now) c.args.c
 
 pub returns-in-Err-clause-turn : goal.returns-in-Err-clause-turn
 returns-in-Err-clause-turn g c = steps_in_turn (core_of c.args.self.now) c.args.cells.now
+
+pub returns-in-Ok-clause-lawful : goal.returns-in-Ok-clause-lawful
+returns-in-Ok-clause-lawful g c = c.holds_words.ensures (g.H.Host.meaning c.args.host.now)
+
+pub returns-in-Err-clause-lawful : goal.returns-in-Err-clause-lawful
+returns-in-Err-clause-lawful g c = c.holds_words.ensures (g.H.Host.meaning c.args.host.now)

@@ -1,7 +1,9 @@
+use Rattle.std.proofs.Common.{◌≡◌, Ok, rules}
 use Rattle.runs.specs.Machines.{machine_of}
-use Rattle.runs.specs.Runs.{held, settings_of}
+use Rattle.runs.specs.Runs.{called, held, settings_of}
 use Rattle.runs.proofs.Exits.{no_run_after_exit}
 use Rattle.runs.proofs.Faulting.{spent_at_permit_faults}
+use Rattle.runs.proofs.InTurn.{steps_of_call}
 use Rattle.runs.proofs.Larger.{same_under_larger}
 use Rattle.runs.proofs.WiderRuns.{same_under_wider}
 use Rattle.runs.proofs.loaded.Machine.run.Goals as goal
@@ -17,3 +19,10 @@ returns-clause-spent g c = spent_at_permit_faults (settings_of c.args.settings.n
 
 pub returns-clause-exits : goal.returns-clause-exits
 returns-clause-exits g c = no_run_after_exit (settings_of c.args.settings.now) (held (machine_of c.args.self.now) c.args.cells.now (g.H.Host.meaning c.args.host.now))
+
+pub returns-clause-steps : goal.returns-clause-steps
+returns-clause-steps g c =
+    let s = settings_of c.args.settings.now in
+    let h = held (machine_of c.args.self.now) c.args.cells.now (g.H.Host.meaning c.args.host.now) in
+    let answer : Ok c.take_steps-report.result ≡ (called s h).answer = search rules in
+    steps_of_call s h _ _ answer (search rules)

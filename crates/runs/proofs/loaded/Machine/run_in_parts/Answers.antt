@@ -1,49 +1,58 @@
-use Rattle.std.proofs.Common.{◌≡◌, sym, ◌∙◌, arith, rules}
+use Rattle.std.proofs.Common.{◌≡◌, sym, ◌∙◌, rules}
 use Rattle.std.specs.Option.{option_map}
-use Rattle.permit.specs.Rights.{rights_of}
 use Rattle.runs.specs.Machines.{machine_of}
 use Rattle.runs.specs.Parts.{total_report}
 use Rattle.runs.specs.Runs.{held}
 use Rattle.runs.specs.declared.report.Ending.TheVariants.{Spent}
-use Rattle.runs.proofs.InParts.{one_run}
-use Rattle.runs.proofs.Playing.{spent_step, quiet_step, ends_parts, all_parts}
+use Rattle.runs.proofs.InParts.{one_run, leaves_other}
+use Rattle.runs.proofs.Playing.{AnswersAt, ComesTo, spent_step, quiet_step, ends_parts, all_parts}
 use Rattle.runs.proofs.loaded.Machine.run_in_parts.Goals as goal
 
-pub loop-request-preserved : goal.loop-request-preserved
-loop-request-preserved g c =
-    let now = held (machine_of c.loop-request.self) c.loop-request.cells (g.H.Host.meaning c.loop-request.host) in
-    let so : c.in-Ran.report.ending ≡ Spent = search rules in
-    (spent_step (rights_of c.args.permit.now) c.args.requests.now _ c.loop-request.request-index _ now _ c.loop-request.invariant.0.0 (option_map total_report c.loop-request.total) _ c.in-Ran.report c.loop-request-test.true c.loop-request.invariant.0.1 c.in-Ran.ensures.answer c.in-Ran.ensures.after so c.with_run.ensures, search rules, search rules)
+pub loop-asked-preserved : goal.loop-asked-preserved
+loop-asked-preserved g c =
+    let now = held (machine_of c.loop-asked.self) c.loop-asked.cells (g.H.Host.meaning c.loop-asked.host) in
+    let so : c.in-Ran.report.ending ≡ Spent = search rules in (
+      spent_step c.args.requests.now _ c.loop-asked.asked-index c.asked-item.result now _ c.loop-asked.other _ c.loop-asked.invariant.0.0 (option_map total_report c.loop-asked.total) _ c.in-Ran.report (record { in_list = c.loop-asked-test.true; is = c.asked-item.is }) c.loop-asked.invariant.0.1
+          (record { answer = sym c.in-Ran.is ∙ c.answer-answer.ensures.answer; held = c.answer-answer.ensures.after; other = c.answer-answer.ensures.other }) so c.with_run.ensures,
+      search rules,
+      search rules,
+    )
 
-pub loop-request-preserved-in_default : goal.loop-request-preserved-in_default
-loop-request-preserved-in_default g c =
-    let now = held (machine_of c.loop-request.self) c.loop-request.cells (g.H.Host.meaning c.loop-request.host) in
-    (quiet_step (rights_of c.args.permit.now) c.args.requests.now _ c.loop-request.request-index _ now _ c.loop-request.invariant.0.0 (option_map total_report c.loop-request.total) c.answer.result c.loop-request-test.true c.loop-request.invariant.0.1 c.answer.ensures.answer c.answer.ensures.after c.in_default.not-Ran, search rules, search rules)
+pub loop-asked-preserved-in_default : goal.loop-asked-preserved-in_default
+loop-asked-preserved-in_default g c =
+    let now = held (machine_of c.loop-asked.self) c.loop-asked.cells (g.H.Host.meaning c.loop-asked.host) in (
+      quiet_step c.args.requests.now _ c.loop-asked.asked-index c.asked-item.result now _ c.loop-asked.other _ c.loop-asked.invariant.0.0 (option_map total_report c.loop-asked.total) c.answer-answer.result (record { in_list = c.loop-asked-test.true; is = c.asked-item.is }) c.loop-asked.invariant.0.1
+          (record { answer = c.answer-answer.ensures.answer; held = c.answer-answer.ensures.after; other = c.answer-answer.ensures.other }) c.in_default.not-Ran,
+      search rules,
+      search rules,
+    )
 
-pub returns-then-not-matches-clause-total : goal.returns-then-not-matches-clause-total
-returns-then-not-matches-clause-total g c =
-    let now = held (machine_of c.loop-request.self) c.loop-request.cells (g.H.Host.meaning c.loop-request.host) in
+pub returns-then-not-matches : goal.returns-then-not-matches
+returns-then-not-matches g c =
+    let begun = held (machine_of c.args.self.now) c.args.cells.now (g.H.Host.meaning c.args.host.now) in
+    let now = held (machine_of c.loop-asked.self) c.loop-asked.cells (g.H.Host.meaning c.loop-asked.host) in
     let so : (c.in-Ran.report.ending ≡ Spent → ⊥) = search rules in
-    c.with_run.ensures ∙ sym (ends_parts (rights_of c.args.permit.now) c.args.requests.now _ c.loop-request.request-index _ now _ c.loop-request.invariant.0.0 (option_map total_report c.loop-request.total) c.in-Ran.report c.loop-request-test.true c.loop-request.invariant.0.1 c.in-Ran.ensures.answer c.in-Ran.ensures.after so).0
+    let end = ends_parts c.args.requests.now _ c.loop-asked.asked-index c.asked-item.result now _ c.loop-asked.other _ c.loop-asked.invariant.0.0 (option_map total_report c.loop-asked.total) c.in-Ran.report (record { in_list = c.loop-asked-test.true; is = c.asked-item.is }) c.loop-asked.invariant.0.1
+    (record { answer = sym c.in-Ran.is ∙ c.answer-answer.ensures.answer; held = c.answer-answer.ensures.after; other = c.answer-answer.ensures.other }) so in
+    record {
+      total = c.with_run.ensures ∙ sym end.report;
+      after = sym end.held;
+      other = sym end.other;
+      one = λ p. one_run p c.args.requests.now begun c.args.other.now;
+      kept = leaves_other c.args.requests.now begun c.args.other.now;
+      lender = search rules;
+    }
 
-pub returns-then-not-matches-clause-after : goal.returns-then-not-matches-clause-after
-returns-then-not-matches-clause-after g c =
-    let now = held (machine_of c.loop-request.self) c.loop-request.cells (g.H.Host.meaning c.loop-request.host) in
-    let so : (c.in-Ran.report.ending ≡ Spent → ⊥) = search rules in
-    sym (ends_parts (rights_of c.args.permit.now) c.args.requests.now _ c.loop-request.request-index _ now _ c.loop-request.invariant.0.0 (option_map total_report c.loop-request.total) c.in-Ran.report c.loop-request-test.true c.loop-request.invariant.0.1 c.in-Ran.ensures.answer c.in-Ran.ensures.after so).1
-
-pub returns-then-not-matches-clause-one : goal.returns-then-not-matches-clause-one
-returns-then-not-matches-clause-one g c = one_run (rights_of c.args.permit.now) c.args.requests.now (held (machine_of c.args.self.now) c.args.cells.now (g.H.Host.meaning c.args.host.now)) (omega (arith, c.args.self.now.large))
-
-pub returns-clause-total : goal.returns-clause-total
-returns-clause-total g c =
-    let now = held (machine_of c.loop-request.self) c.loop-request.cells (g.H.Host.meaning c.loop-request.host) in
-    sym (all_parts (rights_of c.args.permit.now) c.args.requests.now _ c.loop-request.request-index now c.loop-request.invariant.0.0 (option_map total_report c.loop-request.total) c.loop-request-test.false c.loop-request.invariant.0.1).0
-
-pub returns-clause-after : goal.returns-clause-after
-returns-clause-after g c =
-    let now = held (machine_of c.loop-request.self) c.loop-request.cells (g.H.Host.meaning c.loop-request.host) in
-    sym (all_parts (rights_of c.args.permit.now) c.args.requests.now _ c.loop-request.request-index now c.loop-request.invariant.0.0 (option_map total_report c.loop-request.total) c.loop-request-test.false c.loop-request.invariant.0.1).1
-
-pub returns-clause-one : goal.returns-clause-one
-returns-clause-one g c = one_run (rights_of c.args.permit.now) c.args.requests.now (held (machine_of c.args.self.now) c.args.cells.now (g.H.Host.meaning c.args.host.now)) (omega (arith, c.args.self.now.large))
+pub returns : goal.returns
+returns g c =
+    let begun = held (machine_of c.args.self.now) c.args.cells.now (g.H.Host.meaning c.args.host.now) in
+    let now = held (machine_of c.loop-asked.self) c.loop-asked.cells (g.H.Host.meaning c.loop-asked.host) in
+    let end = all_parts c.args.requests.now _ c.loop-asked.asked-index now c.loop-asked.other c.loop-asked.invariant.0.0 (option_map total_report c.loop-asked.total) c.loop-asked-test.false c.loop-asked.invariant.0.1 in
+    record {
+      total = sym end.report;
+      after = sym end.held;
+      other = sym end.other;
+      one = λ p. one_run p c.args.requests.now begun c.args.other.now;
+      kept = leaves_other c.args.requests.now begun c.args.other.now;
+      lender = search rules;
+    }
