@@ -40,7 +40,7 @@ fn work(rt: &HostRuntime) -> anyhow::Result<()> {
 
 /// Writes the error to standard error.
 fn tell(rt: &HostRuntime, error: &anyhow::Error) -> anyhow::Result<()> {
-    eprintln!(rt; "assemble: {error:#}")?;
+    eprintln!(rt; "assemble: {error}")?;
     Ok(())
 }
 

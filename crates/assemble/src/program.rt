@@ -1,6 +1,6 @@
 //! The program, over any output for its report.
 
-use anyhow::{Context, anyhow};
+use anyhow::anyhow;
 use report::refused::refusal_line;
 use report::success::success_lines;
 use std::alloc::AllocError;
@@ -48,6 +48,6 @@ pub(crate) fn run<W: Write>(
     source: &str,
     executable: &str,
 ) -> anyhow::Result<()> {
-    let text = fs::read(rt, source).context(source)?;
+    let text = fs::read(rt, source).map_err(|error| anyhow!("{source}: {error}"))?;
     assemble_text(rt, output, text.as_slice(), executable)
 }

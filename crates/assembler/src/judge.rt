@@ -1,10 +1,9 @@
 //! The questions that a line is asked, and what it adds.
 
-ghost use Rattle.std.specs.Prelude.{◌≡◌, ◌+◌, is_some, List, ℕ, Option};
-ghost use Rattle.lexer.specs.Cursor.{words_in};
+ghost use Rattle.std.specs.Prelude.{◌≡◌, ◌+◌, is_some};
 ghost use Rattle.lexer.specs.Text.{blanks, code_words};
 ghost use Rattle.assembler.specs.Labels.{name_in};
-ghost use Rattle.assembler.specs.Lines.{parts_by, parts_of};
+ghost use Rattle.assembler.specs.Lines.{Parts, named, parts_of};
 ghost use Rattle.assembler.specs.Progress.{progress_of, judged_as};
 ghost use Rattle.assembler.specs.Questions.{body_of, entry_of, judge_of, label_refusal, or_refused};
 ghost use Rattle.assembler.specs.Reading.{operands_in, result_map};
@@ -12,7 +11,7 @@ ghost use Rattle.assembler.specs.Statements.{read_named, told_named};
 
 use crate::heading::Heading;
 use crate::label::{Label, Place};
-use crate::line::split_label;
+use crate::line::take_first;
 use crate::mnemonic::Mnemonic;
 use crate::progress::{Judged, Progress};
 use crate::question::Question;
@@ -50,10 +49,9 @@ fn read_named<'a>(
 }
 
 /// The questions about what follows a label, and the progress after the line.
-fn judge_rest(progress: Progress, labelled: bool, mut words: Words) -> Result<Progress, Question>
-    ensures { (label : Option (List ℕ)) → labelled ≡ is_some label → result_map progress_of result ≡ body_of (progress_of progress) (parts_by label (words_in words.entry)) }
+fn judge_rest(progress: Progress, heading: Heading, words: &mut Words) -> Result<Progress, Question>
+    ensures { (l : Parts) → heading.labelled ≡ is_some l.label → heading.named ≡ is_some l.next → heading.mnemonic ≡ named l.next → operands_in words.old ≡ l.operands → result_map progress_of result ≡ body_of (progress_of progress) l }
 {
-    let heading = Heading::new(labelled, words.next_word());
     if !progress.is_followed(heading) {
         return Err(Question::Waiting);
     }
@@ -63,7 +61,7 @@ fn judge_rest(progress: Progress, labelled: bool, mut words: Words) -> Result<Pr
     if !progress.is_in_order(heading) {
         return Err(Question::Order);
     }
-    let statement = read_named(heading.mnemonic, &mut words)?;
+    let statement = read_named(heading.mnemonic, words)?;
     progress.advance(heading, statement)
 }
 
@@ -87,14 +85,19 @@ pub(crate) fn judge(
 ) -> Result<Judged, Question>
     ensures { result_map judged_as result ≡ judge_of (name_in symbols.entry.text.now) capacity symbols.entry.labels.now (progress_of progress) (line.entry.place + blanks line.entry.code.now) (parts_of (code_words line.entry.code.now)) }
 {
-    match split_label(line) {
-        (None, words) => Ok(Judged {
-            label: None,
-            progress: judge_rest(progress, false, words)?,
-        }),
-        (Some((place, name)), words) => {
+    let mut words = line.words();
+    match take_first(&mut words) {
+        (None, first) => {
+            let heading = Heading::new(false, first);
+            Ok(Judged {
+                label: None,
+                progress: judge_rest(progress, heading, &mut words)?,
+            })
+        }
+        (Some((place, name)), _) => {
             judge_label(symbols, capacity, name)?;
-            let after = judge_rest(progress, true, words)?;
+            let heading = Heading::new(true, words.next_word());
+            let after = judge_rest(progress, heading, &mut words)?;
             Ok(Judged {
                 label: Some(entry_of(progress, place, name)),
                 progress: after,

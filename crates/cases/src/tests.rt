@@ -1,6 +1,6 @@
 //! Small examples.
 
-use crate::bytes::push_times;
+use crate::bytes::{push_times, repeat_from};
 use crate::filled::is_filled;
 use crate::sum::checksum;
 use crate::words::next_word;
@@ -12,6 +12,18 @@ fn parts(rt: HostRuntime) -> Result<(), Fail> {
     push_times(&mut bytes, b"xy", 2)?;
     push_times(&mut bytes, b"z", 0)?;
     assert!(rt; bytes.as_slice() == b"axyxy".as_slice());
+    Ok(())
+}
+
+#[test]
+fn tails(rt: HostRuntime) -> Result<(), Fail> {
+    let mut bytes = Vec::from_slice(rt.alloc(), b"axy")?;
+    repeat_from(&mut bytes, 1, 5)?;
+    assert!(rt; bytes.as_slice() == b"axyxyxyxyxy".as_slice());
+    repeat_from(&mut bytes, 3, 0)?;
+    assert!(rt; bytes.as_slice() == b"axy".as_slice());
+    repeat_from(&mut bytes, 4, 2)?;
+    assert!(rt; bytes.as_slice() == b"axy".as_slice());
     Ok(())
 }
 

@@ -1,7 +1,6 @@
 //! The cases of the table.
 
-use crate::call::Call;
-use anyhow::{Context, anyhow};
+use anyhow::Context;
 use cases::words::next_word;
 use std::str::SplitWhitespace;
 
@@ -21,12 +20,12 @@ pub(crate) enum CaseHost {
     Counting(u32, u32),
 }
 
-/// The case of a line.
+/// The case of a line. Its calls are words, each read where it is made.
 #[derive(Drop)]
 pub(crate) struct Case {
     pub(crate) name: String,
     pub(crate) host: CaseHost,
-    pub(crate) calls: Vec<Call>,
+    pub(crate) calls: Vec<String>,
 }
 
 /// Reads what a host over lent units is made over.
@@ -41,17 +40,16 @@ fn read_lent(rt: &HostRuntime, words: &mut SplitWhitespace<'_>) -> anyhow::Resul
     })
 }
 
-/// Reads the host of a case.
+/// Reads the host of a case: a tape, a counting host, or by any other word a sheet.
 fn read_host(rt: &HostRuntime, words: &mut SplitWhitespace<'_>) -> anyhow::Result<CaseHost> {
     match next_word(words, "host")? {
         "tape" => Ok(CaseHost::Tape(read_lent(rt, words)?)),
-        "sheet" => Ok(CaseHost::Sheet(read_lent(rt, words)?)),
         "counting" => {
             let next = next_word(words, "first number")?.parse()?;
             let end = next_word(words, "end")?.parse()?;
             Ok(CaseHost::Counting(next, end))
         }
-        _ => Err(anyhow!("a case names no host")),
+        _ => Ok(CaseHost::Sheet(read_lent(rt, words)?)),
     }
 }
 
@@ -63,7 +61,7 @@ pub(crate) fn read_case(rt: &HostRuntime, line: &str) -> anyhow::Result<Case> {
     let host = read_host(rt, &mut words)?;
     let mut calls = Vec::new(heap);
     for word in words {
-        calls.push(word.parse()?)?;
+        calls.push(word.to_string(heap)?)?;
     }
     Ok(Case { name, host, calls })
 }

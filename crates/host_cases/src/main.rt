@@ -11,6 +11,11 @@
 //! in decimal. A call `number`, `real` or `character` gets an item of that kind; `number=X` and so on writes one, with X in
 //! hexadecimal. For each case it prints whether there is room, what each call answered and what was written, and of a
 //! tape or a sheet whether the output past it is as it was.
+//!
+//! Another word in place of `tape`, `sheet` and `counting` stands for `sheet`, and a last odd digit of a tape is
+//! dropped. Any other mistake in a line is an error, which ends the program: before the line's name is printed where a
+//! word before the calls is missing or a number there is wrong, else when the input or the call is come to, after what
+//! precedes it.
 
 #![tactic(auto)]
 

@@ -1,6 +1,6 @@
 //! Running a case.
 
-use crate::call::{Call, make_call, show_item};
+use crate::call::{make_call, show_item};
 use crate::case::{CaseHost, Lent, read_case};
 use crate::units::CaseUnit;
 use anyhow::Context;
@@ -24,7 +24,7 @@ pub(crate) fn run_line(rt: &HostRuntime, line: &str) -> anyhow::Result<()> {
 }
 
 /// Runs a case over a host over lent units.
-fn run_lent<U: CaseUnit>(rt: &HostRuntime, lent: &Lent, calls: &[Call]) -> anyhow::Result<()> {
+fn run_lent<U: CaseUnit>(rt: &HostRuntime, lent: &Lent, calls: &[String]) -> anyhow::Result<()> {
     let input = U::read_all(rt, lent.input.as_str())?;
     let mut output = vec![in rt.alloc(); U::FILLER; lent.room]?;
     if let Err(refusal) = ask_room(output.as_slice(), lent.writes) {
@@ -32,8 +32,8 @@ fn run_lent<U: CaseUnit>(rt: &HostRuntime, lent: &Lent, calls: &[Call]) -> anyho
         println!(rt; "  refused {number}")?;
     }
     let mut host = LentHost::new(input.as_slice(), output.as_mut_slice(), lent.writes);
-    for call in calls {
-        make_call(rt, &mut host, *call)?;
+    for word in calls {
+        make_call(rt, &mut host, word.parse()?)?;
     }
     U::show_all(rt, host.written())?;
     let length = host.written_len();
@@ -51,10 +51,10 @@ fn run_lent<U: CaseUnit>(rt: &HostRuntime, lent: &Lent, calls: &[Call]) -> anyho
 }
 
 /// Runs a case over a counting host.
-fn run_counting(rt: &HostRuntime, next: u32, end: u32, calls: &[Call]) -> anyhow::Result<()> {
+fn run_counting(rt: &HostRuntime, next: u32, end: u32, calls: &[String]) -> anyhow::Result<()> {
     let mut host = Counting::new(next, end);
-    for call in calls {
-        make_call(rt, &mut host, *call)?;
+    for word in calls {
+        make_call(rt, &mut host, word.parse()?)?;
     }
     println!(rt; "  written")?;
     for item in host.written() {

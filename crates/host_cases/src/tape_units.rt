@@ -1,6 +1,7 @@
 //! The bytes of a tape.
 
 use crate::units::CaseUnit;
+use anyhow::anyhow;
 
 impl CaseUnit for u8 {
     const FILLER: u8 = 0xaa;
@@ -9,7 +10,12 @@ impl CaseUnit for u8 {
         if text == "-" {
             return Ok(Vec::new(rt.alloc()));
         }
-        Ok(hex::decode(rt.alloc(), text)?)
+        if !text.chars().all(|digit| digit.is_ascii_hexdigit()) {
+            return Err(anyhow!("a tape has a wrong digit"));
+        }
+        // a last digit without a second one is no byte
+        let (pairs, _) = text.as_bytes().as_chunks::<2>();
+        Ok(hex::decode(rt.alloc(), pairs.as_flattened())?)
     }
 
     fn show_all(rt: &HostRuntime, units: &[u8]) -> anyhow::Result<()> {

@@ -1,5 +1,4 @@
 pub mod Again
-pub mod Counts
 pub mod Divides
 pub mod Split
 pub mod Stands

@@ -1,5 +1,5 @@
 -- Where the parts of a text stand in it.
-use Rattle.std.proofs.Common.{◌≡◌, ℕ, suc, ◌+◌, ◌<◌, ◌≤◌, ◌||◌, eqb, ltb, cond, All, List, [], ◌∷◌, ◌++◌, length, get_or, take, drop, is_some, sym, refl, ap, ◌∙◌, subst, append_assoc, append-nil, length-append, arith}
+use Rattle.std.proofs.Common.{◌≡◌, ℕ, suc, ◌+◌, ◌-◌, ◌<◌, ◌≤◌, ◌||◌, eqb, ltb, cond, All, List, [], ◌∷◌, ◌++◌, length, get_or, take, drop, is_some, sym, refl, ap, ◌∙◌, subst, append_assoc, append-nil, length-append, arith}
 use Rattle.std.proofs.lemmas.Bool.{cond-true, cond-false, cond_both, lt-ltb, le-ltb}
 use Rattle.std.proofs.lemmas.List.{take-append-drop, drop_at, take_at, drop-drop, length-take-le, take_all}
 use Rattle.std.proofs.lemmas.List.Elements.{All-cons}
@@ -49,12 +49,25 @@ past_first p k code word rest f =
     let some : blanks code < length code = omega (arith, f.some, f.skipped) in
     sym (cond-true _ _ _ (lt-ltb _ _ some) ∙ ap (λ i. p + i + word_left Gap (drop i code)) (sym f.skipped) ∙ ap (λ n. p + k + n) (sym f.long))
 
+-- what follows the first word is what is left past it
+past_rest : (k : ℕ) (code word rest : List ℕ) → WordFirst code k word rest → drop (k + length word) code ≡ rest
+past_rest k code word rest f =
+    let long : length (take k code) ≡ k = length-take-le k code (omega (arith, f.some)) in
+    let front : drop k code ≡ word ++ rest = ap (drop k) f.whole ∙ drop_at (take k code) (word ++ rest) k long in
+    sym (drop-drop (length word) k code) ∙ ap (drop (length word)) front ∙ drop_at word rest (length word) refl
+
+-- the same from the place of the code and the place past the word
+pub rest_first : (p k : ℕ) (code word rest : List ℕ) → WordFirst code k word rest → rest ≡ drop (p + k + length word - p) code
+rest_first p k code word rest f = sym (past_rest k code word rest f) ∙ ap (λ i. drop i code) (let e : k + length word ≡ p + k + length word - p = omega arith in e)
+
+-- where the place stays, so does what is left
+pub rest_none : (p : ℕ) (code : List ℕ) → code ≡ drop (p - p) code
+rest_none p code = ap (λ i. drop i code) (let e : 0 ≡ p - p = omega arith in e)
+
 -- and the words that are told are the first and those that are told of what follows it
 pub told_first : (n p k : ℕ) (code word rest : List ℕ) → WordFirst code k word rest → told_words n p code (spelled Gap code) ≡ (n, p + k, kind_of word) ∷ told_words n (p + k + length word) rest (spelled Gap rest)
 told_first n p k code word rest f =
-    let long : length (take k code) ≡ k = length-take-le k code (omega (arith, f.some)) in
-    let front : drop k code ≡ word ++ rest = ap (drop k) f.whole ∙ drop_at (take k code) (word ++ rest) k long in
-    let left : drop (k + length word) code ≡ rest = sym (drop-drop (length word) k code) ∙ ap (drop (length word)) front ∙ drop_at word rest (length word) refl in
+    let left : drop (k + length word) code ≡ rest = past_rest k code word rest f in
     ap (told_words n p code) f.words
     ∙ ap (λ i. (n, p + i, kind_of word) ∷ told_words n (p + i + length word) (drop (i + length word) code) (spelled Gap rest)) (sym f.skipped)
     ∙ ap (λ l. (n, p + k, kind_of word) ∷ told_words n (p + k + length word) l (spelled Gap rest)) left

@@ -1,5 +1,5 @@
 -- What the cursors still have in front of them.
-use Rattle.std.specs.Prelude.{◌≡◌, ℕ, ◌+◌, cond, List, [], ◌∷◌, length, drop, map, nat_lt, All, Some, None, Option}
+use Rattle.std.specs.Prelude.{◌≡◌, ℕ, ◌+◌, ◌-◌, cond, List, [], ◌∷◌, length, drop, map, nat_lt, All, Some, None, Option}
 use denote.Ref.{Bor}
 use Rattle.lexer.specs.declared.inside.Inside.TheVariants.{Gap}
 use Rattle.lexer.specs.declared.lines.Line.{Line}
@@ -60,3 +60,4 @@ pub record SplitFirst (w : Words) (place : ℕ) (word : List ℕ) (after : Words
   pub told : told_in w ≡ (w.line, place, kind_of word) ∷ told_in after
   pub line : after.line ≡ w.line
   pub stand : (text : List ℕ) → StandsAt text w.place w.rest.now → StandsAt text place word × StandsAt text after.place after.rest.now
+  pub rest : after.rest.now ≡ drop (after.place - w.place) w.rest.now

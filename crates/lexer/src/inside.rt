@@ -82,3 +82,17 @@ pub(crate) fn split_word(code: &[u8]) -> Option<(usize, &[u8], &[u8])>
     let (word, rest) = from.split_at(word_len(from));
     Some((blanks, word, rest))
 }
+
+/// How many words some code has.
+#[tactic(auto, using(crate::proofs::Stands::few_words))]
+pub(crate) fn count_words(code: &[u8]) -> usize
+    ensures { result ≡ length (spelled Inside.Gap code.now) }
+{
+    let mut count = 0;
+    let mut left = code;
+    while let Some((_, _, after)) = split_word(left) {
+        left = after;
+        count += 1;
+    }
+    count
+}

@@ -1,7 +1,8 @@
 //! Words, by their kinds.
 
-ghost use Rattle.std.specs.Prelude.{◌≡◌};
-ghost use Rattle.lexer.specs.Shown.{shown, kind_of, register_number};
+ghost use Rattle.std.specs.Prelude.{◌≡◌, ℕ, List, true};
+ghost use Rattle.lexer.specs.Parts.{StandsAt};
+ghost use Rattle.lexer.specs.Shown.{shown, bytes_of, kind_of, register_number, sorted};
 
 /// A word of the text.
 #[derive(Clone, Copy)]
@@ -46,5 +47,17 @@ pub(crate) fn kind_of<'a>(word: &'a [u8]) -> Word<'a>
         [b'0'..=b'9' | b'-', ..] => Word::Number(word),
         _ if register_number(word).is_some() => Word::Register(word),
         _ => Word::Name(word),
+    }
+}
+
+/// The kind of the first word of a line.
+#[tactic(auto, using(crate::proofs::Stands::front_stands, crate::proofs::Stands::kind_bytes))]
+pub(crate) fn first_kind<'a>(word: &'a [u8]) -> Word<'a>
+    ensures kind { shown result ≡ sorted true word.now }
+    ensures stands { (text : List ℕ) (p : ℕ) → StandsAt text p word.now → StandsAt text p (bytes_of (shown result)) }
+{
+    match word {
+        [name @ .., b':'] => Word::Label(name),
+        _ => kind_of(word),
     }
 }

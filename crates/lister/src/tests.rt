@@ -1,4 +1,4 @@
-//! The program over inputs that come in parts.
+//! The program over inputs that come in parts or in messages.
 
 use crate::program::run;
 use std::alloc::{AllocError, Global};
@@ -20,6 +20,22 @@ impl Read for Parts<'_> {
         let mut front = &self.bytes[0..count];
         self.bytes = &self.bytes[count..];
         front.read(buffer)
+    }
+}
+
+/// An input that gives a message of so many bytes at a time, of which what was not asked for is lost.
+#[derive(Drop)]
+struct Messages<'a> {
+    bytes: &'a [u8],
+    length: usize,
+}
+
+impl Read for Messages<'_> {
+    fn read(&mut self, buffer: &mut [u8]) -> io::Result<usize> {
+        let length = self.length.min(self.bytes.len());
+        let mut message = &self.bytes[0..length];
+        self.bytes = &self.bytes[length..];
+        message.read(buffer)
     }
 }
 
@@ -51,13 +67,22 @@ fn listing(heap: Global, words: u32) -> Result<Vec<u8>, AllocError> {
 }
 
 /// Checks what is printed for an input, and whether the program fails.
+fn prints_of<R: Read>(rt: &impl Abort, heap: Global, input: &mut R, text: &[u8], fails: bool) {
+    let mut output = Vec::new(heap);
+    let failed = run(heap, input, &mut output).is_err();
+    assert_eq!(rt; failed, fails);
+    assert!(rt; output.as_slice() == text);
+}
+
+/// Checks these of an input that comes in parts, and of one that comes in messages.
 fn prints(rt: &impl Abort, heap: Global, bytes: &[u8], text: &[u8], fails: bool) {
     for most in [1, 7, 512, 8192, 8193, 20_000] {
-        let mut output = Vec::new(heap);
-        let mut parts = Parts { bytes, most };
-        let failed = run(heap, &mut parts, &mut output).is_err();
-        assert_eq!(rt; failed, fails);
-        assert!(rt; output.as_slice() == text);
+        prints_of(rt, heap, &mut Parts { bytes, most }, text, fails);
+        let mut messages = Messages {
+            bytes,
+            length: most,
+        };
+        prints_of(rt, heap, &mut messages, text, fails);
     }
 }
 

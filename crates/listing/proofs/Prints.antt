@@ -1,7 +1,7 @@
 -- What stands on the page of the listing program.
-use Rattle.std.proofs.Common.{◌≡◌, ℕ, ◌<◌, ◌≤◌, true, false, List, length, take, drop, Ok, Err, Result, IfOk, IfErr, sym, ap, ◌∙◌, arith, rules}
+use Rattle.std.proofs.Common.{◌≡◌, ℕ, ◌^◌, ◌<◌, ◌≤◌, true, false, List, length, take, drop, Ok, Err, Result, IfOk, IfErr, sym, ap, ◌∙◌, arith, rules}
 use Rattle.std.proofs.lemmas.List.{take_at}
-use Rattle.std.proofs.lemmas.Bool.{cond-true, cond-false, cond_both, le-leb, le-ltb, both_ways}
+use Rattle.std.proofs.lemmas.Bool.{cond-true, cond-false, cond_both, le-leb, leb-true, le-ltb, both_ways}
 use Rattle.executable.specs.Check.{Parts, parts_in, checked}
 use Rattle.executable.specs.Questions as executable
 use Rattle.executable.specs.declared.refusal.Refusal as refused
@@ -13,6 +13,20 @@ use Rattle.listing.specs.Printout.{taken, text_of, refused_text, is_refused}
 use Rattle.listing.specs.declared.refusal.Refusal.{Refusal}
 use Rattle.listing.specs.declared.refusal.Refusal.TheVariants.{Executable, OutputTooShort}
 use Rattle.listing.proofs.Room.{Bytes, listing_length}
+use Rattle.output.specs.Overlay.{overlay}
+use Rattle.output.specs.Writes.{Put}
+use Rattle.output.specs.declared.writer.Writer.{Writer}
+use Rattle.output.proofs.Writes.{overlay_whole}
+
+-- a text written at the start of a page that has room for it
+pub on_page : (o text : List ℕ) (before after : Writer) → before.out.now ≡ o → before.len ≡ 0 → Put before text after → length text ≤ length o → length o < 2 ^ 64
+    → (take after.len after.out.now ≡ text) × (after.len ≤ length o)
+on_page o text before after lent start put fits small =
+    let e : after.len ≡ length text = omega (arith, put.wrote.ends, start) in
+    let laid : after.out.now ≡ overlay o 0 text = put.wrote.laid ∙ ap (λ n. overlay before.out.now n text) start ∙ ap (λ l. overlay l 0 text) lent in (
+      ap (take after.len) (laid ∙ overlay_whole o text fits) ∙ take_at text (drop (length text) o) after.len (sym e),
+      omega (arith, e),
+    )
 
 asked_before : (q : refused.Refusal) → executable.rank_of q < 7
 asked_before q = search rules
@@ -51,6 +65,16 @@ module _ (bs o o' : List ℕ) (h : length bs ≤ 8192) (out : o' ≡ output_afte
         ap is_refused got,
       )
   listed_page (Err q) v each = tt
+
+-- and ends within it
+pub listed_within : (bs : List ℕ) (room : ℕ) (r : Result ℕ Refusal) → r ≡ length_of (listed bs room) → OnlyFirstNo bs room r → IfOk r (λ n. n ≤ room)
+listed_within bs room (Ok n) v each =
+    let text = listing (parts_in bs) in
+    let fits = each OutputTooShort in
+    let size : Ok n ≡ Ok (length text) = v ∙ ap length_of (listed_is bs room (λ (q : refused.Refusal). each (Executable q)) fits) in
+    let same : n ≡ length text = cc in
+    omega (arith, same, leb-true (length text) room fits)
+listed_within bs room (Err q) v each = tt
 
 -- a refused input has its own refusal
 refusal_is : (room : ℕ) (r : Result Parts refused.Refusal) (q : refused.Refusal) → Err (Executable q) ≡ length_of (listed_parts r room) → r ≡ Err q

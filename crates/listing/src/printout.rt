@@ -4,9 +4,11 @@ ghost use Rattle.std.specs.Prelude.{◌≡◌, ◌≤◌, true, false, length, t
 ghost use Rattle.listing.specs.Numbers.{number_of};
 ghost use Rattle.listing.specs.Printout.{taken, text_of, refused_text, is_refused, printed_text, tells_refusal};
 
+use crate::line::put_number_line;
 use crate::list::list;
 use crate::refusal::Refusal;
 use executable::refusal::Refusal::OtherLength;
+use output::writer::Writer;
 use std::alloc::{AllocError, Global};
 
 /// The most bytes of an input that is listed.
@@ -47,18 +49,29 @@ pub fn printout(heap: Global, input: &[u8]) -> Result<Printed, AllocError>
     ensures text { IfOk result (λ p. printed_text p ≡ text_of (taken input.now)) }
     ensures refused { IfOk result (λ p. tells_refusal p ≡ is_refused (taken input.now)) }
 {
-    let mut page = vec![in heap; 0u8; PAGE]?;
+    let mut page = [0u8; PAGE];
     match list_taken(input, &mut page) {
         Ok(length) => {
-            page.truncate(length);
-            Ok(Printed::Listing(page))
+            let text = Vec::from_slice(heap, &page[0..length])?;
+            Ok(Printed::Listing(text))
         }
         Err(refusal) => {
-            let number = refusal.number();
-            let line = format!(in heap; "refused {number}\n")?;
-            Ok(Printed::Refused(line.into_bytes()))
+            let length = put_refusal(&mut page, refusal.number());
+            let line = Vec::from_slice(heap, &page[0..length])?;
+            Ok(Printed::Refused(line))
         }
     }
+}
+
+/// Writes the line of a refusal, and answers its length.
+fn put_refusal(page: &mut [u8], number: u8) -> usize
+    requires { PAGE ≤ length page.old }
+    ensures text { take result page.new ≡ refused_text number }
+    ensures within { result ≤ length page.old }
+{
+    let mut writer = Writer::new(page);
+    put_number_line(&mut writer, b"refused", u32::from(number));
+    writer.len()
 }
 
 /// Lists an input of at most 8,192 bytes, and refuses a longer one as one of another length.
@@ -66,6 +79,7 @@ fn list_taken(input: &[u8], page: &mut [u8]) -> Result<usize, Refusal>
     requires { PAGE ≤ length page.old }
     ensures listed { IfOk result (λ n.
         (take n page.new ≡ text_of (taken input.now)) × (is_refused (taken input.now) ≡ false)) }
+    ensures within { IfOk result (λ n. n ≤ length page.old) }
     ensures refused { IfErr result (λ q.
         (refused_text (number_of q) ≡ text_of (taken input.now)) × (is_refused (taken input.now) ≡ true)) }
 {

@@ -8,27 +8,23 @@
 //! N is decimal. In a text `~` stands for a blank (byte 32), `|` for a line end (byte 10) and `^` for a tab (byte 9);
 //! every other byte stands for itself.
 
-ghost use Rattle.std.specs.Prelude.{◌≡◌, map, IfOk};
+ghost use Rattle.std.specs.Prelude.{◌≡◌, ◌++◌, map, OnOk};
+ghost use Rattle.cases.specs.Repeated.{repeated};
 ghost use Rattle.texts.specs.Meant.{meant};
 
 use anyhow::Context;
-use cases::bytes::push_times;
-use std::alloc::{AllocError, Global};
+use cases::bytes::{push_times, repeat_from};
 
 /// Appends the bytes of a token.
-pub(crate) fn push_token(heap: Global, bytes: &mut Vec<u8>, token: &str) -> anyhow::Result<()> {
+pub(crate) fn push_token(bytes: &mut Vec<u8>, token: &str) -> anyhow::Result<()> {
     let (kind, rest) = token.split_once(':').context("a token has no kind")?;
     match kind {
-        "t" => {
-            let text = meant_bytes(heap, rest.as_bytes())?;
-            push_times(bytes, text.as_slice(), 1)
-        }
+        "t" => push_meant(bytes, rest.as_bytes()),
         "r" => {
             let (times, text) = rest
                 .split_once('*')
                 .context("a repeated text has no number")?;
-            let text = meant_bytes(heap, text.as_bytes())?;
-            push_times(bytes, text.as_slice(), times.parse::<u32>()?)
+            push_meant_times(bytes, text.as_bytes(), times.parse::<u32>()?)
         }
         _ => {
             let (number, times) = match rest.split_once('*') {
@@ -52,9 +48,30 @@ fn meaning(byte: u8) -> u8
     }
 }
 
-/// The bytes that a text stands for.
-fn meant_bytes(heap: Global, text: &[u8]) -> Result<Vec<u8>, AllocError>
-    ensures { IfOk result (λ bytes. bytes.items ≡ map meant text.now) }
+/// Turns each byte of a text into the byte that it stands for.
+fn turn_to_meant(text: &mut [u8])
+    ensures { text.new ≡ map meant text.old }
 {
-    text.iter().map(|byte| meaning(*byte)).collect(heap)
+    for byte in text.iter_mut() {
+        *byte = meaning(*byte);
+    }
+}
+
+/// Appends the bytes that a text stands for.
+fn push_meant(bytes: &mut Vec<u8>, text: &[u8]) -> anyhow::Result<()>
+    ensures { OnOk result (bytes.new.items ≡ bytes.old.items ++ map meant text.now) }
+{
+    let start = bytes.len();
+    bytes.extend_from_slice(text)?;
+    turn_to_meant(bytes.slice_mut(start..));
+    Ok(())
+}
+
+/// Appends the bytes that a text stands for some times.
+fn push_meant_times(bytes: &mut Vec<u8>, text: &[u8], times: u32) -> anyhow::Result<()>
+    ensures { OnOk result (bytes.new.items ≡ bytes.old.items ++ repeated times (map meant text.now)) }
+{
+    let start = bytes.len();
+    push_meant(bytes, text)?;
+    repeat_from(bytes, start, times)
 }

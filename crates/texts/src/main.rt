@@ -49,7 +49,7 @@ fn read_case(rt: &HostRuntime, line: &str) -> anyhow::Result<Case> {
     let room = next_word(&mut words, "room")?.parse::<usize>()?;
     let mut text = Vec::new(heap);
     for token in words {
-        push_token(heap, &mut text, token)?;
+        push_token(&mut text, token)?;
     }
     Ok(Case {
         name,

@@ -1,6 +1,6 @@
 //! Going through the words of a line.
 
-ghost use Rattle.std.specs.Prelude.{◌≡◌, ℕ, ◌+◌, true, false, List, [], length, ⊤, is_some, IfSome, IfNone, MatchOption, if◌then◌else◌};
+ghost use Rattle.std.specs.Prelude.{◌≡◌, ℕ, ◌+◌, ◌-◌, true, false, List, [], length, drop, ⊤, is_some, IfSome, IfNone, MatchOption, if◌then◌else◌};
 ghost use Rattle.std.specs.Option.{option_map};
 ghost use Rattle.lexer.specs.Cursor.{words_in, kinds_in, told_in, past_word, Begins, SplitFirst};
 ghost use Rattle.lexer.specs.Divided.{Divided};
@@ -8,9 +8,9 @@ ghost use Rattle.lexer.specs.Parts.{StandsAt};
 ghost use Rattle.lexer.specs.Text.{tail_of, blanks};
 ghost use Rattle.lexer.specs.Shown.{shown, bytes_of, tell, told_label, first_told, first_shown, IsLabel};
 
-use crate::inside::split_word;
+use crate::inside::{count_words, split_word};
 use crate::lines::Line;
-use crate::word::{Token, Word, kind_of};
+use crate::word::{Token, Word, first_kind, kind_of};
 use crate::words::Words;
 
 impl<'a> Line<'a> {
@@ -35,7 +35,7 @@ impl<'a> Words<'a> {
     pub fn word_count(&self) -> usize
         ensures { result ≡ length (words_in self.now) }
     {
-        self.count()
+        count_words(self.rest)
     }
 
     /// The first word, its place, and the words after it.
@@ -52,13 +52,36 @@ impl<'a> Words<'a> {
         Some((place, word, after))
     }
 
+    /// The first word of a line, if there is one: a label where it ends in a colon, else a word of its kind.
+    #[tactic(auto, using(crate::proofs::Stands::rest_none))]
+    pub fn first_word(&mut self) -> Option<Token<'a>>
+        ensures told { tell result ≡ first_told self.old.line true (self.old.place + blanks self.old.rest.now) (words_in self.old) }
+        ensures kind { option_map (λ t. shown t.word) result ≡ first_shown true (words_in self.old) }
+        ensures left { words_in self.new ≡ tail_of (words_in self.old) }
+        ensures unchanged { IfNone result (self.new ≡ self.old) }
+        ensures place { self.new.place ≡ past_word self.old }
+        ensures rest { self.new.rest.now ≡ drop (self.new.place - self.old.place) self.old.rest.now }
+        ensures line { self.new.line ≡ self.old.line }
+        ensures stands { (text : List ℕ) → StandsAt text self.old.place self.old.rest.now → IfSome result (λ t. StandsAt text t.place (bytes_of (shown t.word))) }
+        ensures still { (text : List ℕ) → StandsAt text self.old.place self.old.rest.now → StandsAt text self.new.place self.new.rest.now }
+    {
+        let (place, word, after) = self.split_first()?;
+        let word = first_kind(word);
+        let line = self.line;
+        let token = Token { line, place, word };
+        *self = after;
+        Some(token)
+    }
+
     /// Takes the next word if it ends in a colon: the label that a line may begin with.
+    #[tactic(auto, using(crate::proofs::Stands::front_stands, crate::proofs::Stands::rest_none))]
     pub fn take_label(&mut self) -> Option<Token<'a>>
         ensures told { tell result ≡ told_label (first_told self.old.line true (self.old.place + blanks self.old.rest.now) (words_in self.old)) }
         ensures label { IfSome result (λ t. IsLabel t.word) }
         ensures left { words_in self.new ≡ (if is_some result then tail_of (words_in self.old) else words_in self.old) }
         ensures unchanged { IfNone result (self.new ≡ self.old) }
         ensures place { self.new.place ≡ (if is_some result then past_word self.old else self.old.place) }
+        ensures rest { self.new.rest.now ≡ drop (self.new.place - self.old.place) self.old.rest.now }
         ensures line { self.new.line ≡ self.old.line }
         ensures stands { (text : List ℕ) → StandsAt text self.old.place self.old.rest.now → IfSome result (λ t. StandsAt text t.place (bytes_of (shown t.word))) }
         ensures still { (text : List ℕ) → StandsAt text self.old.place self.old.rest.now → StandsAt text self.new.place self.new.rest.now }
@@ -81,7 +104,9 @@ impl<'a> Words<'a> {
         ensures told { tell result ≡ first_told self.old.line false (self.old.place + blanks self.old.rest.now) (words_in self.old) }
         ensures kind { option_map (λ t. shown t.word) result ≡ first_shown false (words_in self.old) }
         ensures left { words_in self.new ≡ tail_of (words_in self.old) }
+        ensures unchanged { IfNone result (self.new ≡ self.old) }
         ensures place { self.new.place ≡ past_word self.old }
+        ensures rest { self.new.rest.now ≡ drop (self.new.place - self.old.place) self.old.rest.now }
         ensures line { self.new.line ≡ self.old.line }
         ensures stands { (text : List ℕ) → StandsAt text self.old.place self.old.rest.now → IfSome result (λ t. StandsAt text t.place (bytes_of (shown t.word))) }
         ensures still { (text : List ℕ) → StandsAt text self.old.place self.old.rest.now → StandsAt text self.new.place self.new.rest.now }

@@ -1,5 +1,5 @@
 use Rattle.std.proofs.Common.{◌+◌, refl, ap}
-use Rattle.lexer.proofs.Stands.{word_stands, past_first, past_none, told_first}
+use Rattle.lexer.proofs.Stands.{word_stands, past_first, past_none, rest_first, told_first}
 use Rattle.lexer.proofs.words.Words.split_first.Goals as goal
 
 pub returns-in_err-skipped : goal.returns-in_err-skipped
@@ -18,4 +18,5 @@ returns c =
       told = told_first w.line w.place c.in_ok-skipped.skipped w.rest.now c.in_ok-skipped.word.now c.in_ok-skipped.rest.now f;
       line = refl;
       stand = λ text s. word_stands text w.place c.in_ok-skipped.skipped w.rest.now c.in_ok-skipped.word.now c.in_ok-skipped.rest.now f s;
+      rest = rest_first w.place c.in_ok-skipped.skipped w.rest.now c.in_ok-skipped.word.now c.in_ok-skipped.rest.now f;
     }
