@@ -6,16 +6,20 @@ ghost use Rattle.cases.specs.Repeated.{repeated};
 use std::alloc::AllocError;
 
 /// Appends a part some times.
+#[inline(always)]
 pub fn push_times(bytes: &mut Vec<u8>, part: &[u8], times: u32) -> anyhow::Result<()>
     ensures { OnOk result (bytes.new.items ≡ bytes.old.items ++ repeated times part.now) }
 {
     let start = bytes.len();
     bytes.extend_from_slice(part)?;
-    repeat_from(bytes, start, times)
+    if times == 1 {
+        return Ok(());
+    }
+    Ok(repeat_from(bytes, start, times)?)
 }
 
 /// Repeats the bytes from a place on, so that they stand there some times.
-pub fn repeat_from(bytes: &mut Vec<u8>, at: usize, times: u32) -> anyhow::Result<()>
+pub fn repeat_from(bytes: &mut Vec<u8>, at: usize, times: u32) -> Result<(), AllocError>
     ensures { OnOk result (bytes.new.items ≡ take at bytes.old.items ++ repeated times (drop at bytes.old.items)) }
 {
     let at = at.min(bytes.len());

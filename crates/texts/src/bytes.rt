@@ -14,17 +14,18 @@ ghost use Rattle.texts.specs.Meant.{meant};
 
 use anyhow::Context;
 use cases::bytes::{push_times, repeat_from};
+use std::alloc::AllocError;
 
 /// Appends the bytes of a token.
 pub(crate) fn push_token(bytes: &mut Vec<u8>, token: &str) -> anyhow::Result<()> {
     let (kind, rest) = token.split_once(':').context("a token has no kind")?;
     match kind {
-        "t" => push_meant(bytes, rest.as_bytes()),
+        "t" => Ok(push_meant(bytes, rest.as_bytes())?),
         "r" => {
             let (times, text) = rest
                 .split_once('*')
                 .context("a repeated text has no number")?;
-            push_meant_times(bytes, text.as_bytes(), times.parse::<u32>()?)
+            Ok(push_meant_times(bytes, text.as_bytes(), times.parse::<u32>()?)?)
         }
         _ => {
             let (number, times) = match rest.split_once('*') {
@@ -58,7 +59,7 @@ fn turn_to_meant(text: &mut [u8])
 }
 
 /// Appends the bytes that a text stands for.
-fn push_meant(bytes: &mut Vec<u8>, text: &[u8]) -> anyhow::Result<()>
+fn push_meant(bytes: &mut Vec<u8>, text: &[u8]) -> Result<(), AllocError>
     ensures { OnOk result (bytes.new.items ≡ bytes.old.items ++ map meant text.now) }
 {
     let start = bytes.len();
@@ -68,7 +69,7 @@ fn push_meant(bytes: &mut Vec<u8>, text: &[u8]) -> anyhow::Result<()>
 }
 
 /// Appends the bytes that a text stands for some times.
-fn push_meant_times(bytes: &mut Vec<u8>, text: &[u8], times: u32) -> anyhow::Result<()>
+fn push_meant_times(bytes: &mut Vec<u8>, text: &[u8], times: u32) -> Result<(), AllocError>
     ensures { OnOk result (bytes.new.items ≡ bytes.old.items ++ repeated times (map meant text.now)) }
 {
     let start = bytes.len();
